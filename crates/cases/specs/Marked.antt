@@ -1,0 +1,131 @@
+-- Document 01's marked cases A to M: one table, and one statement about the definitions.
+use mathlib.Core.Path.{_≡_, refl}
+use mathlib.Core.List.{List, [], _∷_, map}
+use Prim.Native.Nat.{ℕ}
+use lib.IntN.{ℤ, pos, subℕ}
+use lib.ListN.{set, drop}
+use Rattle.vocabulary.specs.Least.{least, all}
+use Rattle.vocabulary.specs.Count.{count}
+use Rattle.vocabulary.specs.Total.{total}
+use Rattle.vocabulary.specs.Table.{table, join, gather}
+use Rattle.vocabulary.specs.Bits.{has, pack}
+use Rattle.vocabulary.specs.Multiple.{lcm, lcmOf}
+use Rattle.graph.specs.Graph.{reach, loops}
+use Rattle.graph.specs.Longest as longest
+use Rattle.graph.specs.Soonest as soonest
+use Rattle.kinds.specs.Limits.{holds, rises}
+use Rattle.kinds.specs.Tasks.{Set, view, pairsBefore}
+use Rattle.kinds.specs.Cycle.{cycle, jobsOf, jobsBefore, jobs, cycleFits}
+use Rattle.kinds.specs.Jobs.{release, due, inWindow, numberOfJob, taskOfJob, jobOfJob}
+use Rattle.kinds.specs.Links.{common, linkFrom, linkTo, repeats, linksOf, links, inner, spansOf, linksIn}
+use Rattle.kinds.specs.Sound.{attributesFit, taskFits, pairKey, pairFits, patternKey, headingFits, patternFits, openingFits, sound}
+use Rattle.kinds.specs.Plans.{slot, shows, shown, awake, runs, ticks}
+use Rattle.reader.specs.Answers as readerAnswers
+use Rattle.reader.specs.Numbers.{numberAt, held, gotAt, andThen}
+use Rattle.reader.specs.Tables.{taskFrom, onTask, tasksFrom, twoAt, onTwo, pairsFrom, onTwoHeading, headingAt, onHeading, onPairs, patternsFrom}
+use Rattle.reader.specs.Files.{openingOf, middleFrom, onOpening, onTasks, onMiddle, onPatterns, headFrom, slotsFrom, onSlots, onHead, readOf}
+use Rattle.judge.specs.Answers as judgeAnswers
+use Rattle.judge.specs.Rules.{high, twin, mated, clashes, strays, strayed, miscounts, miscounted, against, bars, broken, breaks, brokenPair, brokenPattern}
+use Rattle.judge.specs.Judgement.{highAt, twiceAt, outsideAt, wrongAt, brokenAt, verdictOf}
+use Rattle.screen.specs.Answers as screenAnswers
+use Rattle.screen.specs.Network.{pairLinks, patternLinks, cycleLinks, linkStarts, linkEnds, network}
+use Rattle.screen.specs.Times.{ownRelease, ownDue, ownRunning, releaseWeight, adjustedRelease, adjustedDeadline}
+use Rattle.screen.specs.Findings.{onCycle, load, room, tight, findingOf}
+use Rattle.dispatcher.specs.Steps.{releases, heard, doneAt, doneOf, asleep, byteOf, rowOf, standsAt, inRow, ranOf, stepOf}
+use Rattle.dispatcher.specs.Runs.{stateAt, shownAt}
+use Rattle.cases.specs.Questions.{Question, Reply, is, refusedBy, says, times, rows, reply, numberReply, setOf, silence, reportAfter}
+use Rattle.cases.specs.Questions as ask
+
+-- ---- A
+fileA : List ℕ
+fileA =
+    0x01 ∷ 0x03 ∷ 0x01
+    ∷ 0x08 ∷ 0x03 ∷ 0x00 ∷ 0x08
+    ∷ 0x0C ∷ 0x05 ∷ 0x00 ∷ 0x0C
+    ∷ 0x0C ∷ 0x02 ∷ 0x00 ∷ 0x0C
+    ∷ 0x01 ∷ 0x01 ∷ 0x02 ∷ 0x01 ∷ 0x00 ∷ 0x00
+    ∷ 1 ∷ 1 ∷ 1 ∷ 2 ∷ 2 ∷ 2 ∷ 2 ∷ 2 ∷ 3 ∷ 3 ∷ 1 ∷ 1 ∷ 1 ∷ 2 ∷ 2 ∷ 2 ∷ 2 ∷ 2 ∷ 3 ∷ 3 ∷ 1 ∷ 1 ∷ 1 ∷ 0 ∷ []
+
+-- the set that the reader hands out, and the slots behind its place
+setA : Set
+setA = view (readOf fileA .set)
+
+slotsA : List ℕ
+slotsA = drop 21 fileA
+
+-- ---- the other sets
+setC : Set
+setC = setOf 2 ((5, 5, 1, 5) ∷ (5, 2, 0, 5) ∷ (5, 2, 0, 5) ∷ []) []
+
+slotsC : List ℕ
+slotsC = 1 ∷ 2 ∷ 1 ∷ 2 ∷ 1 ∷ 3 ∷ 1 ∷ 3 ∷ 1 ∷ 0 ∷ []
+
+setD : Set
+setD = setOf 1 ((4, 2, 3, 4) ∷ (4, 1, 0, 4) ∷ []) ((0, 1, 0, 0) ∷ [])
+
+setG : Set
+setG = setOf 2 ((2, 1, 0, 2) ∷ []) []
+
+setH : Set
+setH = setOf 1 ((4, 1, 0, 2) ∷ []) []
+
+-- A with task 2's C = 3
+setI : Set
+setI = view (readOf (set fileA 12 3) .set)
+
+setJ : Set
+setJ = setOf 3 ((2, 2, 0, 2) ∷ (2, 2, 0, 2) ∷ (2, 2, 0, 2) ∷ []) ((0, 1, 0, 0) ∷ (1, 2, 0, 0) ∷ [])
+
+setK : Set
+setK = setOf 1 ((4, 1, 0, 4) ∷ (4, 1, 0, 4) ∷ []) ((0, 1, 0, 0) ∷ (1, 0, 0, 0) ∷ [])
+
+minus : ℕ → ℤ
+minus n = subℕ 0 n
+
+-- ---- the table: each question, and what document 01 prints
+cases : List (Question × Reply)
+cases =
+    -- A: the whole is 45 bytes, read and accepted.
+    (ask.lengthOf fileA, is 45)
+    ∷ (ask.reading fileA, says (0 ∷ 21 ∷ []))
+    ∷ (ask.judging setA slotsA, says (0 ∷ []))
+    -- B
+    ∷ (ask.deadlines setA, times (pos 8 ∷ pos 16 ∷ pos 24 ∷ pos 10 ∷ pos 22 ∷ pos 12 ∷ pos 24 ∷ []))
+    -- C: accepted, and the first six steps.
+    ∷ (ask.judging setC slotsC, says (0 ∷ []))
+    ∷ (ask.playing setC slotsC silence 0 6, rows ((0 ∷ 2 ∷ []) ∷ (1 ∷ 2 ∷ []) ∷ (1 ∷ 3 ∷ []) ∷ (1 ∷ 3 ∷ []) ∷ (1 ∷ 0 ∷ []) ∷ (1 ∷ 2 ∷ []) ∷ []))
+    -- D: 23 with 0, 0, 0.
+    ∷ (ask.judging setD (1 ∷ 1 ∷ 2 ∷ 0 ∷ []), says (23 ∷ 0 ∷ 0 ∷ 0 ∷ []))
+    -- E: 22, task 0 job 2, 4 ticks. F: 22, task 0 job 1, 2 ticks.
+    ∷ (ask.judging setA (set slotsA 23 1), says (22 ∷ 0 ∷ 2 ∷ 4 ∷ []))
+    ∷ (ask.judging setA (set slotsA 10 0), says (22 ∷ 0 ∷ 1 ∷ 2 ∷ []))
+    -- G: 20 at tick 0, processors 0 and 1.
+    ∷ (ask.judging setG (1 ∷ 1 ∷ 0 ∷ 0 ∷ []), says (20 ∷ 0 ∷ 0 ∷ 1 ∷ []))
+    -- H: 21 at tick 2, processor 0; then accepted.
+    ∷ (ask.judging setH (0 ∷ 0 ∷ 1 ∷ 0 ∷ []), says (21 ∷ 2 ∷ 0 ∷ []))
+    ∷ (ask.judging setH (0 ∷ 1 ∷ 0 ∷ 0 ∷ []), says (0 ∷ []))
+    -- I: 14 with 25 and 24; A itself has no finding.
+    ∷ (ask.screening setI, says (14 ∷ 25 ∷ 24 ∷ []))
+    ∷ (ask.screening setA, says (0 ∷ []))
+    -- J: deadlines −2, 0, 2; 15 at task 0 job 0.
+    ∷ (ask.deadlines setJ, times (minus 2 ∷ pos 0 ∷ pos 2 ∷ []))
+    ∷ (ask.screening setJ, says (15 ∷ 0 ∷ 0 ∷ []))
+    -- K: 13 at task 0 job 0.
+    ∷ (ask.screening setK, says (13 ∷ 0 ∷ 0 ∷ []))
+    -- L
+    ∷ (ask.number (0x7F ∷ []), is 127)
+    ∷ (ask.number (0x80 ∷ 0x01 ∷ []), is 128)
+    ∷ (ask.number (0xFF ∷ 0xFF ∷ 0x7F ∷ []), is 2097151)
+    ∷ (ask.number (0x80 ∷ 0x00 ∷ []), refusedBy 2)
+    ∷ (ask.number (0xFF ∷ 0xFF ∷ 0xFF ∷ []), refusedBy 2)
+    ∷ (ask.reading [], says (1 ∷ 0 ∷ []))
+    -- M: task 1 reports after tick 3: ticks 4 to 7 show 0, ticks 8 and 9 show 3, ticks 13 to 17 show 2.
+    ∷ (ask.playing setA slotsA (reportAfter 1 3) 4 4, rows ((0 ∷ []) ∷ (0 ∷ []) ∷ (0 ∷ []) ∷ (0 ∷ []) ∷ []))
+    ∷ (ask.playing setA slotsA (reportAfter 1 3) 8 2, rows ((3 ∷ []) ∷ (3 ∷ []) ∷ []))
+    ∷ (ask.playing setA slotsA (reportAfter 1 3) 13 5, rows ((2 ∷ []) ∷ (2 ∷ []) ∷ (2 ∷ []) ∷ (2 ∷ []) ∷ (2 ∷ []) ∷ []))
+    ∷ []
+
+-- ==== The definitions answer every marked case as document 01 prints it.
+marked-cases : map (λ (c : Question × Reply). reply (c .0)) cases ≡ map (λ (c : Question × Reply). c .1) cases
+unfolding cases fileA setA slotsA setC slotsC setD setG setH setI setJ setK minus reply numberReply setOf silence reportAfter least all count total table join gather has pack lcm lcmOf reach loops longest.most longest.entry longest.rounds soonest.fewest soonest.due soonest.soonest holds rises pairsBefore cycle jobsOf jobsBefore jobs cycleFits release due inWindow numberOfJob taskOfJob jobOfJob common linkFrom linkTo repeats linksOf links inner spansOf linksIn attributesFit taskFits pairKey pairFits patternKey headingFits patternFits openingFits sound slot shows shown awake runs ticks readerAnswers.refusalNumber readerAnswers.refusalEvidence readerAnswers.numberOf readerAnswers.evidenceOf numberAt held gotAt andThen taskFrom onTask tasksFrom twoAt onTwo pairsFrom onTwoHeading headingAt onHeading onPairs patternsFrom openingOf middleFrom onOpening onTasks onMiddle onPatterns headFrom slotsFrom onSlots onHead readOf judgeAnswers.numberOf judgeAnswers.evidenceOf high twin mated clashes strays strayed miscounts miscounted against bars broken breaks brokenPair brokenPattern highAt twiceAt outsideAt wrongAt brokenAt verdictOf screenAnswers.findingNumber screenAnswers.findingEvidence pairLinks patternLinks cycleLinks linkStarts linkEnds network ownRelease ownDue ownRunning releaseWeight adjustedRelease adjustedDeadline onCycle load room tight findingOf releases heard doneAt doneOf asleep byteOf rowOf standsAt inRow ranOf stepOf stateAt shownAt
+marked-cases = refl

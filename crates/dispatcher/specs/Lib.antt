@@ -1,0 +1,5 @@
+pub mod Answers
+pub mod Steps
+pub mod Refusals
+pub mod Runs
+pub mod Bytes

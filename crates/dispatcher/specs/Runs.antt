@@ -1,0 +1,45 @@
+-- Runs: any number of steps and any reports, over a function from true tick to row. A plan's repetition is one such function.
+use mathlib.Core.Bool.{Bool, true, false, _&&_}
+use mathlib.Core.List.{List, [], _∷_}
+use Prim.Native.Nat.{ℕ, zero, suc}
+use Rattle.vocabulary.specs.Bits.{has}
+use Rattle.kinds.specs.Tasks.{Tasks, Set}
+use Rattle.kinds.specs.Cycle.{cycle}
+use Rattle.kinds.specs.Plans.{planOf, slot}
+use Rattle.dispatcher.specs.declared.State.{State}
+use Rattle.dispatcher.specs.Steps.{rowOf, stepOf, inRow}
+use Rattle.dispatcher.specs.Refusals.{firstState}
+
+-- tasks, processors, cycle, and the slot that each processor has at each true tick
+pub record Play : Type 0 where
+  pub tasks : Tasks
+  pub processors : ℕ
+  pub cycle : ℕ
+  pub rows : ℕ → ℕ → ℕ
+
+abbrev pub playOf : Set → List ℕ → Play
+playOf s slots = record { tasks = s .tasks; processors = s .processors; cycle = cycle (s .tasks); rows = slot (planOf s slots) }
+
+-- the state before step n, where step k is handed the report `reports k`: a refused step is none
+unfoldable pub stateAt : Play → (ℕ → ℕ) → ℕ → State
+stateAt y reports zero = firstState
+stateAt y reports (suc n) = stepOf (y .tasks) (y .processors) (y .cycle) (y .rows n) (stateAt y reports n) (reports n)
+
+-- what step n shows
+unfoldable pub shownAt : Play → (ℕ → ℕ) → ℕ → List ℕ
+shownAt y reports n = rowOf (y .tasks) (y .processors) (y .cycle) (y .rows n) (stateAt y reports n) (reports n)
+
+-- step n gives task i its tick
+unfoldable pub gives : Play → (ℕ → ℕ) → ℕ → ℕ → Bool
+gives y reports i n = inRow (shownAt y reports n) i
+
+-- "bit i: task i finished in the tick just ended": task i has tick n, and the next step is handed its report, so that the job is heard to finish
+unfoldable pub finishes : Play → (ℕ → ℕ) → ℕ → ℕ → Bool
+finishes y reports i n = gives y reports i n && has (reports (suc n)) i
+
+-- what a list of reports shows, a row a step, from a state on: s is the state before step n
+unfoldable pub shownFrom : Play → ℕ → State → List ℕ → List (List ℕ)
+shownFrom y n s [] = []
+shownFrom y n s (r ∷ rs) =
+    rowOf (y .tasks) (y .processors) (y .cycle) (y .rows n) s r
+    ∷ shownFrom y (suc n) (stepOf (y .tasks) (y .processors) (y .cycle) (y .rows n) s r) rs

@@ -1,0 +1,59 @@
+-- One step of the dispatcher, on a row of m slots.
+use mathlib.Core.Bool.{Bool, true, false, _&&_, _||_, not}
+use mathlib.Core.List.{List}
+use Prim.Native.Nat.{ℕ, _+_, _-_, _%_}
+use lib.Dec.{eqb, ltb}
+use lib.ListN.{getD, length}
+use Rattle.vocabulary.specs.Test.{pick}
+use Rattle.vocabulary.specs.Least.{some}
+use Rattle.vocabulary.specs.Bits.{has, pack}
+use Rattle.vocabulary.specs.Table.{table}
+use Rattle.kinds.specs.Tasks.{Tasks, period, offset}
+use Rattle.dispatcher.specs.declared.State.{State}
+
+-- slot tick c releases a job of task i: h is the cycle, a multiple of the period, so that adding it keeps the remainder
+unfoldable pub releases : Tasks → ℕ → ℕ → ℕ → Bool
+releases u h i c = eqb ((c + h - offset u i) % period u i) 0
+
+-- "A report counts for a task that ran in the last step's tick; other bits are ignored and not heard." "before the tick that this step shows"
+unfoldable pub heard : State → ℕ → ℕ → Bool
+heard s report i = has (s .ran) i && has report i
+
+-- "Then jobs released at this tick clear their task's done mark."
+unfoldable pub doneAt : Tasks → ℕ → State → ℕ → ℕ → Bool
+doneAt u h s report i = not (releases u h i (s .tick)) && (has (s .done) i || heard s report i)
+
+unfoldable pub doneOf : Tasks → ℕ → State → ℕ → ℕ
+doneOf u h s report = pack (doneAt u h s report) (u .count)
+
+-- the task is not yet awake: the first cycle has not come to its first release
+unfoldable pub asleep : Tasks → State → ℕ → Bool
+asleep u s i = s .first && ltb (s .tick) (offset u i)
+
+-- "Then each processor's byte is its slot, or 0 when the task isn't yet awake or is done."
+unfoldable pub byteOf : Tasks → State → ℕ → ℕ → ℕ
+byteOf u s done v = pick (eqb v 0 || (asleep u s (v - 1) || has done (v - 1))) 0 v
+
+-- the bytes of a tick whose slots are row 0, .., row (m - 1)
+unfoldable pub rowOf : Tasks → ℕ → ℕ → (ℕ → ℕ) → State → ℕ → List ℕ
+rowOf u m h row s report = table (λ q. byteOf u s (doneOf u h s report) (row q)) m
+
+-- "The ran marks become the tasks shown".
+unfoldable pub standsAt : List ℕ → ℕ → ℕ → Bool
+standsAt bytes i q = eqb (getD bytes q 0) (i + 1)
+
+unfoldable pub inRow : List ℕ → ℕ → Bool
+inRow bytes i = some (standsAt bytes i) (length bytes)
+
+unfoldable pub ranOf : List ℕ → ℕ → ℕ
+ranOf bytes n = pack (inRow bytes) n
+
+-- "the tick goes on by one, from H − 1 to 0, which ends the first cycle."
+unfoldable pub stepOf : Tasks → ℕ → ℕ → (ℕ → ℕ) → State → ℕ → State
+stepOf u m h row s report =
+    record {
+      tick = pick (ltb (s .tick + 1) h) (s .tick + 1) 0;
+      first = s .first && ltb (s .tick + 1) h;
+      done = doneOf u h s report;
+      ran = ranOf (rowOf u m h row s report) (u .count);
+    }

@@ -1,0 +1,66 @@
+-- The judge's rules, each a test of one slot, one row, one job or one link.
+use mathlib.Core.Bool.{Bool, true, false, _&&_, not}
+use mathlib.Core.List.{List}
+use Prim.Native.Nat.{ℕ, _+_, _-_, _%_}
+use lib.Dec.{eqb, leb, ltb}
+use lib.ListN.{getD}
+use Rattle.vocabulary.specs.Least.{some}
+use Rattle.kinds.specs.Tasks.{Tasks, Patterns, period, running, offset, deadline, fromTask, toTask, pairCount}
+use Rattle.kinds.specs.Cycle.{jobsOf}
+use Rattle.kinds.specs.Jobs.{release}
+use Rattle.kinds.specs.Links.{linkFrom, linkTo, repeats}
+use Rattle.kinds.specs.Plans.{Plan, slot, runs, ticks}
+
+-- ---- 12: "a slot of a lent plan is above the task count"
+unfoldable pub high : List ℕ → ℕ → ℕ → Bool
+high slots n e = ltb n (getD slots e 0)
+
+-- ---- 20: "a task twice in one tick": processors q < r show the same task at tick t. It is about slots, also where a task still sleeps
+unfoldable pub twin : Plan → ℕ → ℕ → ℕ → Bool
+twin p t q r = ltb q r && (not (eqb (slot p t q) 0) && eqb (slot p t r) (slot p t q))
+
+unfoldable pub mated : Plan → ℕ → ℕ → Bool
+mated p t q = some (twin p t q) (p .processors)
+
+unfoldable pub clashes : Plan → ℕ → Bool
+clashes p t = some (mated p t) (p .processors)
+
+-- ---- 21: "a slot outside its task's windows". "the slot tick c offends if (c − O) mod T, taken as 0 to T − 1, is at least D": H is a multiple of T,
+-- so that adding it keeps the remainder, and c + H is not below O
+unfoldable pub strays : Tasks → Plan → ℕ → ℕ → Bool
+strays u p c q =
+    let i : ℕ = slot p c q - 1 in
+    not (eqb (slot p c q) 0) && leb (deadline u i) ((c + p .cycle - offset u i) % period u i)
+
+unfoldable pub strayed : Tasks → Plan → ℕ → Bool
+strayed u p c = some (strays u p c) (p .processors)
+
+-- ---- 22: "a job's ticks in its window aren't C"
+unfoldable pub miscounts : Tasks → Plan → ℕ → ℕ → Bool
+miscounts u p i k = not (eqb (ticks u p i k) (running u i))
+
+unfoldable pub miscounted : Tasks → Plan → ℕ → Bool
+miscounted u p i = some (miscounts u p i) (jobsOf u i)
+
+-- ---- 23: "a link is broken". "A link is kept when every tick of the first job is earlier than every tick of the second, in true time and not in slot
+-- ticks." Tick y past the release of job l of task j is one of that job, and not later than time x
+unfoldable pub against : Tasks → Plan → ℕ → ℕ → ℕ → ℕ → Bool
+against u p j l x y = runs u p j (release u j l + y) && leb (release u j l + y) x
+
+-- tick x past the release of job k of task i is one of that job, and the second job has a tick that is not later
+unfoldable pub bars : Tasks → Plan → ℕ → ℕ → ℕ → ℕ → ℕ → Bool
+bars u p i k j l x = runs u p i (release u i k + x) && some (against u p j l (release u i k + x)) (deadline u j)
+
+-- the link from job k of task i to job l of task j is broken
+unfoldable pub broken : Tasks → Plan → ℕ → ℕ → ℕ → ℕ → Bool
+broken u p i k j l = some (bars u p i k j l) (deadline u i)
+
+-- the n-th link of pair q of pattern k is broken
+unfoldable pub breaks : Tasks → Patterns → Plan → ℕ → ℕ → ℕ → Bool
+breaks u v p k q n = broken u p (fromTask v k) (linkFrom u v k q n) (toTask v k) (linkTo u v k q n)
+
+unfoldable pub brokenPair : Tasks → Patterns → Plan → ℕ → ℕ → Bool
+brokenPair u v p k q = some (breaks u v p k q) (repeats u v k)
+
+unfoldable pub brokenPattern : Tasks → Patterns → Plan → ℕ → Bool
+brokenPattern u v p k = some (brokenPair u v p k) (pairCount v k)

@@ -1,0 +1,59 @@
+-- The cycle of a set, and its jobs.
+use mathlib.Core.Bool.{Bool, true, false, _&&_}
+use mathlib.Core.List.{List, []}
+use Prim.Native.Nat.{ℕ, _/_}
+use lib.Dec.{leb}
+use lib.ListN.{getD}
+use Rattle.vocabulary.specs.Test.{pick}
+use Rattle.vocabulary.specs.Least.{all}
+use Rattle.vocabulary.specs.Total.{total}
+use Rattle.vocabulary.specs.Multiple.{lcm, lcmOf}
+use Rattle.kinds.specs.declared.Cycle.{Cycle}
+use Rattle.kinds.specs.Limits.{holds, periods, longestCycle, mostJobs}
+use Rattle.kinds.specs.Tasks.{Tasks, period, tasksOf}
+
+-- "H is the least common multiple of all periods."
+unfoldable pub cycle : Tasks → ℕ
+cycle u = lcmOf (λ i. getD (u .periods) i 0) (u .count)
+
+-- "Job numbers below H/T make up one cycle's jobs."
+unfoldable pub jobsOf : Tasks → ℕ → ℕ
+jobsOf u i = cycle u / period u i
+
+-- the jobs of a cycle stand in order, by task, then job: those of the tasks before task i
+unfoldable pub jobsBefore : Tasks → ℕ → ℕ
+jobsBefore u i = total (jobsOf u) i
+
+-- all of them
+unfoldable pub jobs : Tasks → ℕ
+jobs u = jobsBefore u (u .count)
+
+-- Rule 5 is kept: not "H over 6,000 or over 2,048 jobs".
+unfoldable pub cycleFits : Tasks → Bool
+cycleFits u = leb (cycle u) longestCycle && leb (jobs u) mostJobs
+
+-- ---- what the functions over lent tables answer
+-- two periods' least common multiple, 0 where one of the two is no period
+unfoldable pub multipleOf : ℕ → ℕ → ℕ
+multipleOf a b = pick (holds periods a && holds periods b) (lcm a b) 0
+
+-- of a set the cycle and its jobs need only the periods
+abbrev pub onlyPeriods : List ℕ → ℕ → Tasks
+onlyPeriods ps n = tasksOf n ps [] [] []
+
+-- n periods in their range, no more than a table has
+unfoldable pub periodsFit : List ℕ → ℕ → Bool
+periodsFit ps n = leb n 64 && all (λ i. holds periods (getD ps i 0)) n
+
+-- the cycle of n periods that are in their range and make one of at most 6,000; else 0
+unfoldable pub ticksOf : List ℕ → ℕ → ℕ
+ticksOf ps n = let u : Tasks = onlyPeriods ps n in pick (all (λ i. holds periods (getD ps i 0)) n && leb (cycle u) longestCycle) (cycle u) 0
+
+abbrev pub noCycle : Cycle
+noCycle = record { ticks = 0; jobs = 0 }
+
+-- the cycle of n periods that keep rule 5, with its jobs; 0 for both where there is none
+unfoldable pub cycleOf : List ℕ → ℕ → Cycle
+cycleOf ps n =
+    let u : Tasks = onlyPeriods ps n in
+    pick (periodsFit ps n && cycleFits u) (record { ticks = cycle u; jobs = jobs u }) noCycle

@@ -1,0 +1,30 @@
+-- Jobs and their windows.
+use mathlib.Core.Bool.{Bool, true, false, _&&_}
+use Prim.Native.Nat.{ℕ, suc, _+_, _-_, _*_}
+use lib.Dec.{leb, ltb}
+use Rattle.vocabulary.specs.Least.{least}
+use Rattle.kinds.specs.Tasks.{Tasks, period, offset, deadline}
+use Rattle.kinds.specs.Cycle.{jobsBefore}
+
+-- "Job k (k = 0, 1, ...) is released at O + kT".
+unfoldable pub release : Tasks → ℕ → ℕ → ℕ
+release u i k = offset u i + k * period u i
+
+-- the job's own deadline, in true time
+unfoldable pub due : Tasks → ℕ → ℕ → ℕ
+due u i k = release u i k + deadline u i
+
+-- "its window is the ticks from O + kT up to, but not with, O + kT + D."
+unfoldable pub inWindow : Tasks → ℕ → ℕ → ℕ → Bool
+inWindow u i k t = leb (release u i k) t && ltb t (due u i k)
+
+-- ---- the jobs of a cycle by one number, "ordered by task, then job"
+unfoldable pub numberOfJob : Tasks → ℕ → ℕ → ℕ
+numberOfJob u i k = jobsBefore u i + k
+
+-- and back: the task and the job that have number x
+unfoldable pub taskOfJob : Tasks → ℕ → ℕ
+taskOfJob u x = least (λ i. ltb x (jobsBefore u (suc i))) (u .count)
+
+unfoldable pub jobOfJob : Tasks → ℕ → ℕ
+jobOfJob u x = x - jobsBefore u (taskOfJob u x)

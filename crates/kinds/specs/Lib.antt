@@ -1,0 +1,10 @@
+pub mod Limits
+pub mod Tasks
+pub mod Cycle
+pub mod Jobs
+pub mod Links
+pub mod Sound
+pub mod Plans
+pub mod Valid
+pub mod Build
+pub mod Facts

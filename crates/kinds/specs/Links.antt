@@ -1,0 +1,56 @@
+-- Patterns, pairs and the links that they make.
+use mathlib.Core.Bool.{Bool, true, false, _&&_}
+use Prim.Native.Nat.{ℕ, _+_, _*_, _/_}
+use lib.Dec.{ltb, eqb}
+use Rattle.vocabulary.specs.Test.{pick}
+use Rattle.vocabulary.specs.Total.{total}
+use Rattle.vocabulary.specs.Multiple.{lcm}
+use Rattle.kinds.specs.declared.Spans.{Spans}
+use Rattle.kinds.specs.Limits.{holds, periods}
+use Rattle.kinds.specs.Tasks.{Tasks, Patterns, period, fromTask, toTask, pairCount, pairFirst, pairSecond}
+use Rattle.kinds.specs.Cycle.{cycle, jobsOf}
+
+-- "With p the least common multiple of the two periods": p of pattern k.
+unfoldable pub common : Tasks → Patterns → ℕ → ℕ
+common u v k = lcm (period u (fromTask v k)) (period u (toTask v k))
+
+-- "Here a < p/Ti and b < p/Tj." How far a pair's first number may go,
+abbrev pub firstReach : ℕ → ℕ → ℕ
+firstReach p t = p / t
+
+-- and its second, by the edition: today p/Tj for every edition.
+abbrev pub reach : ℕ → ℕ → ℕ → ℕ
+reach e p t = p / t
+
+-- "the pair (a, b) links job a + k·p/Ti of i to job b + k·p/Tj of j for every k ≥ 0": the two jobs that pair q of pattern k links for the n-th time
+unfoldable pub linkFrom : Tasks → Patterns → ℕ → ℕ → ℕ → ℕ
+linkFrom u v k q n = pairFirst v k q + n * (common u v k / period u (fromTask v k))
+
+unfoldable pub linkTo : Tasks → Patterns → ℕ → ℕ → ℕ → ℕ
+linkTo u v k q n = pairSecond v k q + n * (common u v k / period u (toTask v k))
+
+-- how often pattern k's pairs link jobs of one cycle: "each pair counted H/p times", "Only k below H/p is shown as evidence"
+unfoldable pub repeats : Tasks → Patterns → ℕ → ℕ
+repeats u v k = cycle u / common u v k
+
+-- the links of a cycle
+unfoldable pub linksOf : Tasks → Patterns → ℕ → ℕ
+linksOf u v k = pairCount v k * repeats u v k
+
+unfoldable pub links : Tasks → Patterns → ℕ
+links u v = total (linksOf u v) (v .count)
+
+-- both jobs of a link lie in one block of H. In edition 1 every link of a cycle does
+unfoldable pub inner : Tasks → Patterns → ℕ → ℕ → ℕ → Bool
+inner u v k q n = ltb (linkFrom u v k q n) (jobsOf u (fromTask v k)) && ltb (linkTo u v k q n) (jobsOf u (toTask v k))
+
+-- ---- what the functions over lent tables answer
+-- two periods' common multiple, and how far the numbers of a pair may go; all 0 where one of the two is no period
+unfoldable pub spansOf : ℕ → ℕ → ℕ → Spans
+spansOf e s t =
+    pick (holds periods s && holds periods t) (record { whole = lcm s t; first = firstReach (lcm s t) s; second = reach e (lcm s t) t })
+    (record { whole = 0; first = 0; second = 0 })
+
+-- the links that n pairs make in h ticks, where p is the common multiple of the periods; 0 where p is
+unfoldable pub linksIn : ℕ → ℕ → ℕ → ℕ
+linksIn n h p = pick (eqb p 0) 0 (n * (h / p))

@@ -1,0 +1,46 @@
+-- A plan's endless repetition.
+use mathlib.Core.Bool.{Bool, true, false, _&&_}
+use mathlib.Core.List.{List}
+use Prim.Native.Nat.{ℕ, _+_, _*_, _%_}
+use lib.Dec.{eqb, leb}
+use lib.ListN.{getD}
+use Rattle.vocabulary.specs.Least.{some}
+use Rattle.vocabulary.specs.Count.{count}
+use Rattle.kinds.specs.Tasks.{Tasks, Set, offset, deadline}
+use Rattle.kinds.specs.Cycle.{cycle}
+use Rattle.kinds.specs.Jobs.{release}
+
+-- "A plan has m·H slots, tick by tick, in a tick processor by processor."
+pub record Plan : Type 0 where
+  pub slots : List ℕ
+  pub processors : ℕ
+  pub cycle : ℕ
+
+abbrev pub plan : List ℕ → ℕ → ℕ → Plan
+plan slots m h = record { slots = slots; processors = m; cycle = h }
+
+abbrev pub planOf : Set → List ℕ → Plan
+planOf s slots = plan slots (s .processors) (cycle (s .tasks))
+
+-- "At time t processor q shows the slot at tick t mod H".
+unfoldable pub slot : Plan → ℕ → ℕ → ℕ
+slot p t q = getD (p .slots) (t % p .cycle * p .processors + q) 0
+
+-- "Slot 0 is idle, slot v means task v − 1."
+unfoldable pub shows : Plan → ℕ → ℕ → ℕ → Bool
+shows p i t q = eqb (slot p t q) (i + 1)
+
+-- some processor shows task i at time t
+unfoldable pub shown : Plan → ℕ → ℕ → Bool
+shown p i t = some (shows p i t) (p .processors)
+
+-- "it runs that task if t is at least the task's O, else it is idle."
+unfoldable pub awake : Tasks → ℕ → ℕ → Bool
+awake u i t = leb (offset u i) t
+
+unfoldable pub runs : Tasks → Plan → ℕ → ℕ → Bool
+runs u p i t = awake u i t && shown p i t
+
+-- the ticks that job k of task i gets in its window
+unfoldable pub ticks : Tasks → Plan → ℕ → ℕ → ℕ
+ticks u p i k = count (runs u p i) (release u i k) (deadline u i)

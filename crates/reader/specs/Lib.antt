@@ -1,0 +1,4 @@
+pub mod Answers
+pub mod Numbers
+pub mod Tables
+pub mod Files

@@ -1,0 +1,4 @@
+pub mod Answers
+pub mod Network
+pub mod Times
+pub mod Findings

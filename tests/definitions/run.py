@@ -1,0 +1,144 @@
+"""A changed definition must break the marked cases.
+
+Each *.edit beside this file changes a definition of some crate. The script lays out the definitions that `cases` stands on, without code and without
+laws, so that nothing else can refuse the change; proves the cases there as they are; and then shows that each change makes them fail, with the first
+error in the table's statement. An edit has a comment, and `file:`, `old:` and `new:` lines as must-fail edits have, with the path from the top.
+"""
+import os, re, shutil, subprocess, sys
+
+TOP = os.path.abspath(os.path.join(os.path.dirname(__file__), '..', '..'))
+WORK = os.path.join(TOP, 'target', 'definitions')
+USE = re.compile(r'^(?:ghost )?use Rattle·(\w+?)(?:·specs)?\.specs\.(\w+)', re.M)
+
+
+def used(text):
+    """The spec files, as (crate, file), that a text brings in."""
+    return {(crate, file) for crate, file in USE.findall(text) if file != 'declared'}
+
+
+def reached():
+    """Every spec file that the cases stand on."""
+    home = os.path.join(TOP, 'crates', 'cases', 'specs')
+    todo = [('cases', f[:-5]) for f in os.listdir(home) if f.endswith('.antt') and f != 'Lib.antt']
+    seen = set()
+    while todo:
+        crate, file = todo.pop()
+        if (crate, file) in seen:
+            continue
+        seen.add((crate, file))
+        with open(os.path.join(TOP, 'crates', crate, 'specs', file + '.antt'), encoding='utf-8') as f:
+            todo += used(f.read())
+    return seen
+
+
+def types_only(text):
+    """The structs, enums and `use` lines of a source: what definitions can name."""
+    text = re.sub(r'//[^\n]*', '', text)
+    kept, at = [], 0
+    item = re.compile(r'\s*(?:#\[[^\]]*\]\s*)*(?:pub\s+)?(?:extern\s+"C"\s+)?(ghost use|use|struct|enum|const|fn|impl|mod|type)\b')
+    while True:
+        m = item.match(text, at)
+        if not m:
+            break
+        word, end = m.group(1), m.end()
+        depth = 0
+        while end < len(text):
+            c = text[end]
+            if c == '{':
+                depth += 1
+            elif c == '}':
+                depth -= 1
+                if depth == 0 and word not in ('use', 'ghost use') and not re.match(r'\s*(requires|ensures|\{)', text[end + 1:]):
+                    end += 1
+                    break
+            elif c == ';' and depth == 0:
+                end += 1
+                break
+            end += 1
+        if word in ('use', 'struct', 'enum'):
+            kept.append(text[at:end].strip())
+        at = end
+    return '\n'.join(kept) + '\n'
+
+
+def lay_out(where):
+    files = reached()
+    shutil.rmtree(where, ignore_errors=True)
+    crates = sorted({crate for crate, _ in files})
+    listed = {}
+    with open(os.path.join(TOP, 'crates.txt'), encoding='utf-8') as f:
+        for line in f:
+            name, _, deps = line.split('#')[0].partition(':')
+            if name.strip():
+                listed[name.strip()] = [d for d in deps.split() if d in crates]
+    for crate in crates:
+        home, copy = os.path.join(TOP, 'crates', crate), os.path.join(where, 'crates', crate)
+        os.makedirs(os.path.join(copy, 'src'))
+        os.makedirs(os.path.join(copy, 'specs'))
+        with open(os.path.join(home, 'src', 'lib.rt'), encoding='utf-8') as f, open(os.path.join(copy, 'src', 'lib.rt'), 'w', encoding='utf-8') as out:
+            out.write(types_only(f.read()))
+        mine = sorted(file for c, file in files if c == crate)
+        with open(os.path.join(home, 'specs', 'Lib.antt'), encoding='utf-8') as f:
+            order = [m for m in re.findall(r'^pub mod (\w+)', f.read(), re.M) if m in mine]
+        with open(os.path.join(copy, 'specs', 'Lib.antt'), 'w', encoding='utf-8') as out:
+            out.write(''.join(f'pub mod {m}\n' for m in order))
+        for m in order:
+            shutil.copy(os.path.join(home, 'specs', m + '.antt'), os.path.join(copy, 'specs', m + '.antt'))
+    with open(os.path.join(where, 'crates.txt'), 'w', encoding='utf-8') as out:
+        out.write(''.join(f"{c}: {' '.join(listed[c])}\n" for c in crates))
+
+
+def change(where, path):
+    """Applies the edit at a path; what is wrong with it, or nothing."""
+    file = old = None
+    with open(path, encoding='utf-8') as f:
+        for line in f.read().split('\n'):
+            if line.startswith('file: '):
+                file = os.path.join(where, line[6:])
+            elif line.startswith('old: '):
+                old = line[5:]
+            elif line.startswith('new: '):
+                with open(file, encoding='utf-8') as g:
+                    text = g.read()
+                if text.count(old) != 1:
+                    return f'an old text stands {text.count(old)} times in {os.path.relpath(file, where)}'
+                with open(file, 'w', encoding='utf-8') as g:
+                    g.write(text.replace(old, line[5:]))
+    return None
+
+
+def check(where):
+    ran = subprocess.run(['rt', 'check', 'cases'], cwd=where, capture_output=True, text=True)
+    said = ran.stdout + ran.stderr
+    first = re.search(r'^(\S+?):(\d+):\d+: error', said, re.M)
+    return ran.returncode, os.path.relpath(first.group(1), where) if first else '', said
+
+
+def main():
+    here = os.path.dirname(os.path.abspath(__file__))
+    passed = failed = 0
+    lay_out(WORK)
+    status, first, said = check(WORK)
+    if status == 0:
+        passed += 1
+        print('the marked cases follow from the definitions alone')
+    else:
+        failed += 1
+        print('the marked cases are not proved from the definitions alone:\n' + said[-3000:])
+    for name in sorted(f for f in os.listdir(here) if f.endswith('.edit')) if status == 0 else []:
+        where = os.path.join(TOP, 'target', 'definitions-changed', name[:-5])
+        shutil.rmtree(where, ignore_errors=True)
+        shutil.copytree(WORK, where)
+        bad = change(where, os.path.join(here, name))
+        status_, first, said = check(where) if bad is None else (2, '', '')
+        if bad is None and status_ == 1 and first == os.path.join('crates', 'cases', 'specs', 'Marked.antt'):
+            passed += 1
+            print(f'{name[:-5]}: refused by the marked cases, as it must be')
+        else:
+            failed += 1
+            print(f'{name[:-5]}: ' + (bad or ('NOT REFUSED' if status_ == 0 else f'refused elsewhere, first at {first}')))
+    print(f'{passed} passed, {failed} failed')
+    return 0 if failed == 0 else 1
+
+
+sys.exit(main())
