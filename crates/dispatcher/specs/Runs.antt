@@ -1,6 +1,6 @@
 -- Runs: any number of steps and any reports, over a function from true tick to row. A plan's repetition is one such function.
 use mathlib.Core.Bool.{Bool, true, false, _&&_}
-use mathlib.Core.List.{List, [], _∷_}
+use mathlib.Core.List.{List}
 use Prim.Native.Nat.{ℕ, zero, suc}
 use Rattle.vocabulary.specs.Bits.{has}
 use Rattle.kinds.specs.Tasks.{Tasks, Set}
@@ -36,10 +36,3 @@ gives y reports i n = inRow (shownAt y reports n) i
 -- "bit i: task i finished in the tick just ended": task i has tick n, and the next step is handed its report, so that the job is heard to finish
 unfoldable pub finishes : Play → (ℕ → ℕ) → ℕ → ℕ → Bool
 finishes y reports i n = gives y reports i n && has (reports (suc n)) i
-
--- what a list of reports shows, a row a step, from a state on: s is the state before step n
-unfoldable pub shownFrom : Play → ℕ → State → List ℕ → List (List ℕ)
-shownFrom y n s [] = []
-shownFrom y n s (r ∷ rs) =
-    rowOf (y .tasks) (y .processors) (y .cycle) (y .rows n) s r
-    ∷ shownFrom y (suc n) (stepOf (y .tasks) (y .processors) (y .cycle) (y .rows n) s r) rs

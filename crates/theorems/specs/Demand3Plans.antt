@@ -1,0 +1,121 @@
+-- A plan's repetition is a play: what its steps lean on.
+use mathlib.Core.Path.{_≡_, refl, ap, _∙_, fun-ext}
+use mathlib.Core.Bool.{false, not}
+use mathlib.Core.List.{List}
+use mathlib.Core.Logic.{⊎-elim}
+use Prim.Native.Nat.{ℕ, zero, suc, _+_, _*_, _%_, _^_, _≤_, _<_}
+use native.Mathlib.Nat.{mod-lt}
+use native.Mathlib.Omega.{arith}
+use lib.Dec.{eqb}
+use lib.ListN.{getD, length, List·getD-eq-default}
+use lib.Pow.{pow-pos}
+use borrow.Author.Tests.{le-ltb, ltb-false, eqb-true, not-false}
+use Rattle.vocabulary.specs.Test.{lt-or-le, missed}
+use Rattle.vocabulary.specs.Least.{some, some-not, none}
+use Rattle.kinds.specs.Tasks.{Set}
+use Rattle.kinds.specs.Cycle.{cycle}
+use Rattle.kinds.specs.Plans.{planOf, slot, shows, shown, runs}
+use Rattle.kinds.specs.Sound.{sound}
+use Rattle.kinds.specs.Facts.{Sound, sound-facts}
+use Rattle.judge.specs.Rules.{high}
+use Rattle.judge.specs.declared.Verdict.the-variants as verdict
+use Rattle.judge.specs.Judgement.{highAt, verdictOf}
+use Rattle.laws.specs.Repeat.{slot-mod}
+use Rattle.dispatcher.specs.declared.Answer.the-variants as answer
+use Rattle.dispatcher.specs.Refusals.{impossible, highSlot, stepped, steppedOf, leftOf}
+use Rattle.dispatcher.specs.Runs.{Play, playOf, stateAt, shownAt}
+use Rattle.dispatcher.specs.Laws.{done-low, ran-low, Allowed, none-refuses, is-possible, no-overreport}
+use Rattle.theorems.specs.Demand3Terms.{names, planned, Playable, Fits, GoesOn}
+use Rattle.theorems.specs.Solo.{tick-at}
+
+-- a planned tick of the play is one that the plan's repetition runs
+pub planned-runs : (s : Set) (slots : List ℕ) (i : ℕ) → planned (playOf s slots) i ≡ runs (s .tasks) (planOf s slots) i
+unfolding planned runs shown shows names
+planned-runs s slots i = refl
+
+-- an accepted plan kept rules 10, 11 and 12
+pub accepted-fits : (s : Set) (slots : List ℕ) → verdictOf s slots ≡ verdict.Accepted → Fits s slots
+unfolding verdictOf highAt high
+accepted-fits s slots e =
+    let a = missed (not (sound s)) _ _ _ e bad-set in
+    let b = missed (not (eqb (length slots) (s .processors * cycle (s .tasks)))) _ _ _ (a .1) wrong-length in
+    let c = missed (some (high slots (s .tasks .count)) (length slots)) _ _ _ (b .1) bad-slot in
+    record {
+      is-sound = not-false (sound s) (a .0);
+      long = eqb-true (length slots) (s .processors * cycle (s .tasks)) (not-false _ (b .0));
+      low = λ x l. ltb-false (s .tasks .count) (getD slots x 0) (some-not (high slots (s .tasks .count)) (length slots) (c .0) x l);
+    }
+  where
+    bad-set : verdict.BadSet ≡ verdict.Accepted → ⊥
+    bad-set q = let z : _≡_ {A = ℕ} 0 1 = cc in omega arith
+
+    wrong-length : verdict.WrongLength ≡ verdict.Accepted → ⊥
+    wrong-length q = let z : _≡_ {A = ℕ} 0 1 = cc in omega arith
+
+    bad-slot : {x : ℕ} → verdict.BadSlot x ≡ verdict.Accepted → ⊥
+    bad-slot q = let z : _≡_ {A = ℕ} 0 1 = cc in omega arith
+
+module _ (s : Set) (slots : List ℕ) (fits : Fits s slots) where
+  abbrev y : Play
+  y = playOf s slots
+
+  facts : Sound s
+  facts = sound-facts s (fits .is-sound)
+
+  pub plan-playable : Playable (playOf s slots)
+  plan-playable = record { some-cycle = facts .some-cycle; divides = facts .divides; offset-low = facts .offset-low }
+
+  slot-low : (t q : ℕ) → slot (planOf s slots) t q ≤ s .tasks .count
+  unfolding slot
+  slot-low t q = at (t % cycle (s .tasks) * s .processors + q)
+    where
+      at : (e : ℕ) → getD slots e 0 ≤ s .tasks .count
+      at e = ⊎-elim (fits .low e) (λ h. omega (arith, List·getD-eq-default slots 0 h)) (lt-or-le e (length slots))
+
+  none-high : (t : ℕ) → some (highSlot (s .tasks) (slot (planOf s slots) t)) (s .processors) ≡ false
+  unfolding highSlot
+  none-high t = none (highSlot (s .tasks) (slot (planOf s slots) t)) (s .processors) (λ q l. le-ltb (s .tasks .count) (slot (planOf s slots) t q) (slot-low t q))
+
+  module _ (reports : ℕ → ℕ) where
+    -- the slots of the state's tick are those of the true tick
+    pub row-at : (n : ℕ) → slot (planOf s slots) (stateAt (playOf s slots) reports n .tick) ≡ slot (planOf s slots) n
+    row-at n = ap (slot (planOf s slots)) (tick-at y plan-playable reports n) ∙ fun-ext (slot-mod (planOf s slots) n)
+
+    pub always-possible : (n : ℕ) → impossible (s .tasks) (stateAt (playOf s slots) reports n) ≡ false
+    unfolding stateAt
+    always-possible n = is-possible (s .tasks) (stateAt y reports n) (rw (tick-at y plan-playable reports n) (mod-lt n (facts .some-cycle))) (done-at n) (ran-at n)
+      where
+        done-at : (n : ℕ) → stateAt y reports n .done < 2 ^ s .tasks .count
+        done-at zero = pow-pos (s .tasks .count)
+        done-at (suc n) = done-low (s .tasks) (s .processors) (cycle (s .tasks)) (slot (planOf s slots) n) (stateAt y reports n) (reports n)
+
+        ran-at : (n : ℕ) → stateAt y reports n .ran < 2 ^ s .tasks .count
+        ran-at zero = pow-pos (s .tasks .count)
+        ran-at (suc n) = ran-low (s .tasks) (s .processors) (cycle (s .tasks)) (slot (planOf s slots) n) (stateAt y reports n) (reports n)
+
+    -- a call with an output of m bytes and no report bit at or above the task count is allowed
+    pub allowed-at : (n report : ℕ) (out : List ℕ) → report < 2 ^ s .tasks .count → length out ≡ s .processors → Allowed s slots (stateAt (playOf s slots) reports n) report out
+    allowed-at n report out l e =
+        record {
+          is-sound = fits .is-sound;
+          long = fits .long;
+          wide = e;
+          possible = always-possible n;
+          in-range = no-overreport (s .tasks) report l;
+          low = none-high (stateAt y reports n .tick);
+        }
+
+    -- one with the report of step n is that step
+    pub step-at : (n : ℕ) (out : List ℕ) → Allowed s slots (stateAt (playOf s slots) reports n) (reports n) out → (steppedOf s slots (stateAt (playOf s slots) reports n) (reports n) out ≡ stepped answer.Shown (stateAt (playOf s slots) reports (suc n))) × (leftOf s slots (stateAt (playOf s slots) reports n) (reports n) out ≡ shownAt (playOf s slots) reports n)
+    unfolding stateAt shownAt
+    step-at n out a =
+        let w = none-refuses s slots (stateAt y reports n) (reports n) out a in
+        (w .0 ∙ rw (row-at n), w .1 ∙ rw (row-at n))
+
+    pub step-goes-on : (n : ℕ) → reports n < 2 ^ s .tasks .count → GoesOn s slots reports n
+    step-goes-on n l =
+        record {
+          possible = always-possible n;
+          taken = λ out e. step-at n out (allowed-at n (reports n) out l e) .0;
+          left = λ out e. step-at n out (allowed-at n (reports n) out l e) .1;
+        }
