@@ -1,3 +1,4 @@
 pub mod Answers
 pub mod Rules
 pub mod Judgement
+pub mod Order

@@ -8,3 +8,8 @@ pub mod Plans
 pub mod Valid
 pub mod Build
 pub mod Facts
+pub mod Laws
+pub mod Walk
+pub mod Whole
+pub mod Agree
+pub mod Blank

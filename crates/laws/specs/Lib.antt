@@ -1,2 +1,5 @@
 pub mod Repeat
 pub mod Order
+pub mod Back
+pub mod Windows
+pub mod Links

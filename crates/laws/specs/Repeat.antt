@@ -3,7 +3,7 @@ use mathlib.Core.Path.{_≡_, sym, ap, _∙_, fun-ext}
 use mathlib.Core.Bool.{Bool, true, false, _&&_}
 use mathlib.Core.List.{List}
 use Prim.Native.Nat.{ℕ, zero, suc, _+_, _-_, _*_, _%_, _/_, _≤_, _<_, _∣_}
-use native.Mathlib.Nat.{mod-mod, add-mod-right, mod-add-div', add-mul-mod-self-right, div-mul-cancel, mod-lt, div-add-mod', le-of-dvd, le-div-iff-mul-le, one-mul, lt-of-lt-of-le}
+use native.Mathlib.Nat.{mod-mod, add-mod-right, mod-add-div', add-mul-mod-self-right, div-mul-cancel, mod-lt, div-add-mod', le-of-dvd, lt-of-lt-of-le}
 use native.Mathlib.Omega.{arith}
 use lib.Dec.{eqb, leb}
 use borrow.Author.Tests.{le-leb, leb-true}
@@ -15,7 +15,7 @@ use Rattle.kinds.specs.Tasks.{Tasks, Set, period, offset, deadline}
 use Rattle.kinds.specs.Cycle.{cycle, jobsOf}
 use Rattle.kinds.specs.Jobs.{release, due}
 use Rattle.kinds.specs.Plans.{Plan, slot, shows, shown, awake, runs, ticks}
-use Rattle.kinds.specs.Facts.{Sound}
+use Rattle.kinds.specs.Facts.{Sound, some-jobs}
 
 -- ---- slots
 pub slot-again : (p : Plan) (t c q : ℕ) → slot p (t + c * p .cycle) q ≡ slot p t q
@@ -57,11 +57,6 @@ unfolding release
 release-awake u i k d = omega arith
 
 -- ---- jobs
--- a task has jobs in every cycle
-pub some-jobs : (s : Set) → Sound s → (i : ℕ) → i < s .tasks .count → 0 < jobsOf (s .tasks) i
-unfolding jobsOf
-some-jobs s f i l = le-div-iff-mul-le (f .some-period i l) .1 (rw one-mul (le-of-dvd (f .some-cycle) (f .divides i l)))
-
 -- job k's release, from that of the job of the first cycle that it repeats
 pub release-again : (u : Tasks) (i k : ℕ) → period u i ∣ cycle u → release u i k ≡ release u i (k % jobsOf u i) + k / jobsOf u i * cycle u
 unfolding release jobsOf

@@ -2,3 +2,6 @@ pub mod Answers
 pub mod Network
 pub mod Times
 pub mod Findings
+pub mod NetworkLaws
+pub mod Order
+pub mod TimesLaws

@@ -6,3 +6,6 @@ pub mod Table
 pub mod Bits
 pub mod Multiple
 pub mod Remainder
+pub mod More
+pub mod Lists
+pub mod Lowest

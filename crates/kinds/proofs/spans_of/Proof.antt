@@ -1,0 +1,24 @@
+use Rattle.vocabulary.specs.Test.{both}
+use Rattle.kinds.specs.Limits.{holds, periods}
+use Rattle.kinds.specs.Laws.{holds-at, multiple-some, spans-none, spans-some}
+use borrow.Author.Needs.{needs}
+use Rattle.kinds.proofs.spans_of.Statement.{statement}
+use Rattle.kinds.proofs.spans_of.Tie as tie
+
+common-multiple-requires : tie.Need-common-multiple-requires
+common-multiple-requires c κs = search needs
+
+returns : tie.Need-returns
+returns c = spans-none _ _ _ (c .before .common-multiple .ensures) (c .if1 .taken)
+
+div-t6 : tie.Need-div-t6
+div-t6 c = holds-at 1 6001 _ (both (multiple-some _ _ (c .before .common-multiple .ensures) (c .if1 .left) .0) .0) .0
+
+div-t7 : tie.Need-div-t7
+div-t7 c = holds-at 1 6001 _ (both {a = holds periods (c .before .before .args .s)} (multiple-some _ _ (c .before .common-multiple .ensures) (c .if1 .left) .0) .1) .0
+
+returns-2 : tie.Need-returns-2
+returns-2 c = spans-some _ _ _ (c .before .common-multiple .ensures) (c .if1 .left)
+
+pub spans-of-spec : {M : Type 1} → statement M
+spans-of-spec = tie.close (tie.spec common-multiple-requires returns div-t6 div-t7 returns-2)

@@ -1,0 +1,94 @@
+-- What each verdict claims, in document 01's words: which rules are kept, which one is broken, and that its evidence is the lowest.
+use mathlib.Core.Path.{_≡_}
+use mathlib.Core.Bool.{true, false}
+use mathlib.Core.List.{List}
+use Prim.Native.Nat.{ℕ, _+_, _-_, _*_, _%_, _<_, _≤_}
+use lib.ListN.{getD, length}
+use Rattle.kinds.specs.Tasks.{Tasks, Patterns, Set, period, running, offset, deadline, fromTask, toTask, pairCount}
+use Rattle.kinds.specs.Cycle.{cycle, jobsOf}
+use Rattle.kinds.specs.Links.{linkFrom, linkTo, repeats}
+use Rattle.kinds.specs.Plans.{Plan, planOf, slot, ticks}
+use Rattle.kinds.specs.Sound.{sound}
+use Rattle.kinds.specs.Valid.{LinkKept}
+use Rattle.judge.specs.declared.Verdict.{Verdict}
+use Rattle.judge.specs.declared.Verdict.the-variants as verdict
+use Rattle.vocabulary.specs.Lowest.{Lowest, Lowest2, Lowest3}
+
+-- ---- how each rule is broken at one place
+-- 12: "a slot of a lent plan is above the task count"
+abbrev pub TooHigh : Set → List ℕ → ℕ → Type 0
+TooHigh s slots e = s .tasks .count < getD slots e 0
+
+-- 20: "a task twice in one tick": at tick t two processors, q < r, show the same task
+pub record Doubled (p : Plan) (t q r : ℕ) : Type 0 where
+  pub order : q < r
+  pub busy : slot p t q ≡ 0 → ⊥
+  pub same : slot p t r ≡ slot p t q
+
+-- 21: "a slot outside its task's windows": "the slot tick c offends if (c − O) mod T, taken as 0 to T − 1, is at least D". H is a multiple of T, so that
+-- adding it keeps the remainder, and c + H is not below O
+pub record Misplaced (u : Tasks) (p : Plan) (c q : ℕ) : Type 0 where
+  pub busy : slot p c q ≡ 0 → ⊥
+  pub late : deadline u (slot p c q - 1) ≤ (c + p .cycle - offset u (slot p c q - 1)) % period u (slot p c q - 1)
+
+-- 22: "a job's ticks in its window aren't C"
+abbrev pub Miscounted : Tasks → Plan → ℕ → ℕ → Type 0
+Miscounted u p i k = ticks u p i k ≡ running u i → ⊥
+
+-- 23: "a link is broken": not "every tick of the first job is earlier than every tick of the second"
+abbrev pub LinkBroken : Tasks → Patterns → Plan → ℕ → ℕ → ℕ → Type 0
+LinkBroken u v p k q n = LinkKept u p (fromTask v k) (linkFrom u v k q n) (toTask v k) (linkTo u v k q n) → ⊥
+
+-- ---- each rule, kept in the whole cycle
+pub record Keeps10 (s : Set) : Type 0 where
+  pub sound : sound s ≡ true
+
+pub record Keeps11 (s : Set) (slots : List ℕ) : Type 0 where
+  pub long : length slots ≡ s .processors * cycle (s .tasks)
+
+pub record Keeps12 (s : Set) (slots : List ℕ) : Type 0 where
+  pub none : (e : ℕ) → e < length slots → TooHigh s slots e → ⊥
+
+pub record Keeps20 (s : Set) (slots : List ℕ) : Type 0 where
+  pub none : (t q r : ℕ) → t < cycle (s .tasks) → q < s .processors → r < s .processors → Doubled (planOf s slots) t q r → ⊥
+
+pub record Keeps21 (s : Set) (slots : List ℕ) : Type 0 where
+  pub none : (c q : ℕ) → c < cycle (s .tasks) → q < s .processors → Misplaced (s .tasks) (planOf s slots) c q → ⊥
+
+pub record Keeps22 (s : Set) (slots : List ℕ) : Type 0 where
+  pub none : (i k : ℕ) → i < s .tasks .count → k < jobsOf (s .tasks) i → Miscounted (s .tasks) (planOf s slots) i k → ⊥
+
+pub record Keeps23 (s : Set) (slots : List ℕ) : Type 0 where
+  pub none : (k q n : ℕ) → k < s .patterns .count → q < pairCount (s .patterns) k → n < repeats (s .tasks) (s .patterns) k → LinkBroken (s .tasks) (s .patterns) (planOf s slots) k q n → ⊥
+
+-- nothing is claimed
+abbrev pub Nothing : Type 0
+Nothing = Unit {0}
+
+-- ---- "Judge: 10, 11, 12, 20, 21, 22, 23, else accepted.": the rules that are kept where a verdict is given, all that come before its own
+unfoldable pub Before : Set → List ℕ → Verdict → Type 0
+Before s slots verdict.BadSet = Nothing
+Before s slots verdict.WrongLength = Keeps10 s
+Before s slots (verdict.BadSlot e) = Keeps10 s × Keeps11 s slots
+Before s slots (verdict.Twice t q r) = Keeps10 s × Keeps11 s slots × Keeps12 s slots
+Before s slots (verdict.Outside c q) = Keeps10 s × Keeps11 s slots × Keeps12 s slots × Keeps20 s slots
+Before s slots (verdict.WrongCount i k c) = Keeps10 s × Keeps11 s slots × Keeps12 s slots × Keeps20 s slots × Keeps21 s slots
+Before s slots (verdict.BrokenLink k q n) = Keeps10 s × Keeps11 s slots × Keeps12 s slots × Keeps20 s slots × Keeps21 s slots × Keeps22 s slots
+Before s slots verdict.Accepted = Keeps10 s × Keeps11 s slots × Keeps12 s slots × Keeps20 s slots × Keeps21 s slots × Keeps22 s slots × Keeps23 s slots
+
+-- ---- the rule that is broken, and that the evidence is its lowest: "Lowest means by task, then job; by tick, then processors; by pattern, pair, k."
+-- 22 also shows the "ticks it gets". "Only k below H/p is shown as evidence".
+unfoldable pub Breach : Set → List ℕ → Verdict → Type 0
+Breach s slots verdict.BadSet = sound s ≡ false
+Breach s slots verdict.WrongLength = length slots ≡ s .processors * cycle (s .tasks) → ⊥
+Breach s slots (verdict.BadSlot e) = Lowest (TooHigh s slots) (length slots) e
+Breach s slots (verdict.Twice t q r) = Lowest3 (Doubled (planOf s slots)) (cycle (s .tasks)) (λ x. s .processors) (λ x y. s .processors) t q r
+Breach s slots (verdict.Outside c q) = Lowest2 (Misplaced (s .tasks) (planOf s slots)) (cycle (s .tasks)) (λ x. s .processors) c q
+Breach s slots (verdict.WrongCount i k c) = Lowest2 (Miscounted (s .tasks) (planOf s slots)) (s .tasks .count) (jobsOf (s .tasks)) i k × (c ≡ ticks (s .tasks) (planOf s slots) i k)
+Breach s slots (verdict.BrokenLink k q n) = Lowest3 (LinkBroken (s .tasks) (s .patterns) (planOf s slots)) (s .patterns .count) (pairCount (s .patterns)) (λ x y. repeats (s .tasks) (s .patterns) x) k q n
+Breach s slots verdict.Accepted = Nothing
+
+-- ==== What a verdict claims: the rules before its own are kept, its own is broken, and its evidence is the lowest. Acceptance claims that all are kept.
+pub record Names (s : Set) (slots : List ℕ) (x : Verdict) : Type 0 where
+  pub kept : Before s slots x
+  pub broken : Breach s slots x
