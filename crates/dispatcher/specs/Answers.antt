@@ -5,7 +5,7 @@ use Rattle.dispatcher.specs.declared.Answer.{Answer}
 use Rattle.dispatcher.specs.declared.Answer.the-variants as answer
 
 -- "10 (tasks and m), 11 (plan, output, C state), 30, 31, 12 (this tick's slots only)"; 0 for a step that was taken.
-unfoldable pub numberOf : Answer → ℕ
+abbrev pub numberOf : Answer → ℕ
 numberOf answer.Shown = 0
 numberOf answer.BadSet = 10
 numberOf answer.WrongLength = 11
@@ -14,7 +14,7 @@ numberOf answer.BadReport = 31
 numberOf (answer.BadSlot e) = 12
 
 -- 12 shows the "lowest slot place" in the plan
-unfoldable pub evidenceOf : Answer → List ℕ
+abbrev pub evidenceOf : Answer → List ℕ
 evidenceOf answer.Shown = []
 evidenceOf answer.BadSet = []
 evidenceOf answer.WrongLength = []

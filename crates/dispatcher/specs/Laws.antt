@@ -108,7 +108,6 @@ module _ (next state : State) (place : ℕ) where
   outcome a b c d e = byTests a b c d e place (λ x. stepped x state) (stepped answer.Shown next)
 
   when-taken : (a b c d e : Bool) → numberOf (outcome a b c d e .answer) ≡ 0 → (a ≡ false) × (b ≡ false) × (c ≡ false) × (d ≡ false) × (e ≡ false)
-  unfolding numberOf
   when-taken true b c d e h = absurd (omega arith)
   when-taken false true c d e h = absurd (omega arith)
   when-taken false false true d e h = absurd (omega arith)
@@ -117,7 +116,6 @@ module _ (next state : State) (place : ℕ) where
   when-taken false false false false false h = (refl, refl, refl, refl, refl)
 
   when-refused : (row out : List ℕ) (a b c d e : Bool) → (numberOf (outcome a b c d e .answer) ≡ 0 → ⊥) → (outcome a b c d e .state ≡ state) × (byTests a b c d e place (λ x. out) row ≡ out)
-  unfolding numberOf
   when-refused row out true b c d e h = (refl, refl)
   when-refused row out false true c d e h = (refl, refl)
   when-refused row out false false true d e h = (refl, refl)

@@ -10,7 +10,7 @@ use Rattle.reader.specs.declared.Outcome.the-variants as outcome
 -- "4: task count, m, an attribute or the pattern count outside the limits; pair count carries the total past 1,024", "5: H over 6,000 or over 2,048
 -- jobs", "6: pattern or pair breaks range, order or difference; pair count 0", "9: over 4,096 links", "7: slot above the task count",
 -- "8: bytes after the last slot".
-unfoldable pub refusalNumber : Refusal → ℕ
+abbrev pub refusalNumber : Refusal → ℕ
 refusalNumber (refusal.Ends p) = 1
 refusalNumber (refusal.Malformed p) = 2
 refusalNumber refusal.UnknownEdition = 3
@@ -23,7 +23,7 @@ refusalNumber (refusal.LeftOver p) = 8
 
 -- 1 shows the file length, 3 shows 0, 5 and 9 the place after the last task and the last pattern, 8 the first byte left over, the others the first
 -- byte of the number or slot.
-unfoldable pub refusalEvidence : Refusal → List ℕ
+abbrev pub refusalEvidence : Refusal → List ℕ
 refusalEvidence (refusal.Ends p) = p ∷ []
 refusalEvidence (refusal.Malformed p) = p ∷ []
 refusalEvidence refusal.UnknownEdition = 0 ∷ []
@@ -35,10 +35,10 @@ refusalEvidence (refusal.BadSlot p) = p ∷ []
 refusalEvidence (refusal.LeftOver p) = p ∷ []
 
 -- "The reader answers with the set and the place of the first slot": number 0, and the place.
-unfoldable pub numberOf : Outcome → ℕ
+abbrev pub numberOf : Outcome → ℕ
 numberOf (outcome.At p) = 0
 numberOf (outcome.Refused r) = refusalNumber r
 
-unfoldable pub evidenceOf : Outcome → List ℕ
+abbrev pub evidenceOf : Outcome → List ℕ
 evidenceOf (outcome.At p) = p ∷ []
 evidenceOf (outcome.Refused r) = refusalEvidence r

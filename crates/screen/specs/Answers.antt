@@ -7,7 +7,7 @@ use Rattle.screen.specs.declared.Adjusted.{Adjusted}
 use Rattle.screen.specs.declared.Adjusted.the-variants as adjusted
 
 -- "13: links make a cycle", "14: sum of C·H/T is over m·H", "15: a job's adjusted release + C is over its adjusted deadline"; 0 for no finding.
-unfoldable pub findingNumber : Finding → ℕ
+abbrev pub findingNumber : Finding → ℕ
 findingNumber finding.Nothing = 0
 findingNumber finding.BadSet = 10
 findingNumber (finding.Cycle i k) = 13
@@ -15,7 +15,7 @@ findingNumber (finding.Overload a b) = 14
 findingNumber (finding.TooTight i k) = 15
 
 -- 13 shows the "lowest job that lies on one", 14 "both numbers", 15 the "lowest such job".
-unfoldable pub findingEvidence : Finding → List ℕ
+abbrev pub findingEvidence : Finding → List ℕ
 findingEvidence finding.Nothing = []
 findingEvidence finding.BadSet = []
 findingEvidence (finding.Cycle i k) = i ∷ k ∷ []
@@ -23,13 +23,13 @@ findingEvidence (finding.Overload a b) = a ∷ b ∷ []
 findingEvidence (finding.TooTight i k) = i ∷ k ∷ []
 
 -- "Adjusted times: 10, 11, 13."
-unfoldable pub adjustedNumber : Adjusted → ℕ
+abbrev pub adjustedNumber : Adjusted → ℕ
 adjustedNumber adjusted.Written = 0
 adjustedNumber adjusted.BadSet = 10
 adjustedNumber adjusted.WrongLength = 11
 adjustedNumber (adjusted.Cycle i k) = 13
 
-unfoldable pub adjustedEvidence : Adjusted → List ℕ
+abbrev pub adjustedEvidence : Adjusted → List ℕ
 adjustedEvidence adjusted.Written = []
 adjustedEvidence adjusted.BadSet = []
 adjustedEvidence adjusted.WrongLength = []

@@ -105,7 +105,7 @@ module _ (s : Set) (slots : List ℕ) (fits : Fits s slots) (reports : ℕ → �
   allowed-right n c a = rw (eq-eqb (length (c .output)) (s .processors) (a .wide), lt-ltb (c .report) (2 ^ s .tasks .count) (report-low (s .tasks) (c .report) (a .in-range)))
 
   takes-right : (n : ℕ) (c : Call) → takes s slots (stateAt y reports n) c ≡ isRight s c
-  unfolding takes isTaken numberOf
+  unfolding takes isTaken
   takes-right n c =
       same-test
       (λ e. allowed-right n c (taken-allowed s slots (stateAt y reports n) (c .report) (c .output) (eqb-true (numberOf (here n c .answer)) 0 e)))
