@@ -24,6 +24,7 @@ use Rattle.reader.specs.declared.Shape.{Shape}
 use Rattle.reader.specs.declared.Head.{Head}
 use Rattle.reader.specs.declared.Head.the-variants as head
 use Rattle.reader.specs.declared.Loaded.{Loaded}
+use Rattle.reader.specs.declared.Taking.{Taking}
 use Rattle.reader.specs.Numbers.{gotAt, andThen}
 use Rattle.reader.specs.Tables.{TaskTables, TasksRead, PatternTables, PatternsRead, noTaskTables, noPatternTables, tasksFrom, patternsFrom}
 
@@ -124,16 +125,12 @@ unfoldable pub readOf : List ℕ → Loaded
 readOf s = let r : HeadRead = headFrom s noTaskTables noPatternTables in onHead s (r .outcome) (r .tasks) (r .patterns)
 
 -- ---- the head alone, as the C side passes tasks and m: "bytes that the reader would refuse, or bytes left over, give 10"
-pub record Taken : Type 0 where
-  pub fits : Bool
-  pub set : TaskSet
-
-abbrev pub notTaken : Taken
+abbrev pub notTaken : Taking
 notTaken = record { fits = false; set = noTasks 0 0 }
 
-unfoldable pub takeHead : List ℕ → Head → TaskTables → PatternTables → Taken
+unfoldable pub takeHead : List ℕ → Head → TaskTables → PatternTables → Taking
 takeHead s (head.Of f at) t v = pick (eqb at (length s)) (record { fits = true; set = setOf f t v }) notTaken
 takeHead s (head.Refused r) t v = notTaken
 
-unfoldable pub takenOf : List ℕ → Taken
+unfoldable pub takenOf : List ℕ → Taking
 takenOf s = let r : HeadRead = headFrom s noTaskTables noPatternTables in takeHead s (r .outcome) (r .tasks) (r .patterns)

@@ -9,3 +9,9 @@ pub mod Remainder
 pub mod More
 pub mod Lists
 pub mod Lowest
+pub mod Keep
+pub mod Prefix
+pub mod Steps
+pub mod Rows
+pub mod Tally
+pub mod Words

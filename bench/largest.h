@@ -1,0 +1,109 @@
+/* The largest plan: 64 tasks, 8 processors, H 6,000, 2,048 jobs, 4,096 links, accepted. 45 tasks of period 200 run at the start of their periods, 15 of
+   period 150 from tick 90 of theirs on, so that a job of the first kind is over before the linked jobs of the second begin; 2 of period 250 and 2 of
+   period 240, which make the cycle 6,000, take the first free ticks. */
+#ifndef LARGEST_H
+#define LARGEST_H
+#include "../tests/make.h"
+
+static uint32_t largest_period(uint32_t i) { return i < 45 ? 200 : i < 60 ? 150 : i < 62 ? 250 : 240; }
+
+static void largest(made *f)
+{
+    enum { H = 6000, M = 8, N = 64, C = 5 };
+    static uint8_t slots[M * H];
+    uint32_t i, j, k, x, q, patterns = 0;
+    size_t count_at;
+    memset(slots, 0, sizeof slots);
+    for (i = 0; i < N; i++)
+        for (k = 0; k < H / largest_period(i); k++) {
+            uint32_t t = largest_period(i), from = k * t, got = 0;
+            if (i < 45)
+                from += i / M * C;
+            else if (i < 60)
+                from += 90 + (i - 45) / M * C;
+            for (x = from; got < C && x < (k + 1) * t; x++) {
+                for (q = 0; q < M && slots[x * M + q]; q++)
+                    ;
+                if (q == M)
+                    continue;
+                slots[x * M + q] = (uint8_t)(i + 1);
+                got++;
+            }
+        }
+    f->length = 0;
+    put(f, 1);
+    put(f, N);
+    put(f, M);
+    for (i = 0; i < N; i++) {
+        put(f, largest_period(i));
+        put(f, C);
+        put(f, 0);
+        put(f, largest_period(i));
+    }
+    count_at = f->length;
+    put(f, 0);
+    /* 51 patterns of 8 pairs, 10 links each, and one of 2 pairs, 8 links each */
+    for (i = 0; i < 45 && patterns < 51; i++)
+        for (j = 45; j < 47 && patterns < 51; j++) {
+            static const uint8_t pair[8][2] = {{0, 0}, {0, 1}, {0, 2}, {0, 3}, {1, 1}, {1, 2}, {1, 3}, {2, 3}};
+            put(f, i);
+            put(f, j);
+            put(f, 8);
+            for (k = 0; k < 8; k++) {
+                put(f, pair[k][0]);
+                put(f, pair[k][1]);
+            }
+            patterns++;
+        }
+    put(f, 45);
+    put(f, 60);
+    put(f, 2);
+    put(f, 0);
+    put(f, 1);
+    put(f, 0);
+    put(f, 2);
+    f->bytes[count_at] = (uint8_t)(patterns + 1);
+    f->tasks = f->length;
+    memcpy(f->bytes + f->length, slots, sizeof slots);
+    f->length += sizeof slots;
+    f->processors = M;
+    f->cycle = H;
+    f->count = N;
+    f->jobs = 2048;
+}
+
+/* The longest head: 64 tasks, 64 patterns, 1,024 pairs, most numbers of two bytes; with any 48,000 slots behind it the largest file to read. */
+static void longest_file(made *f)
+{
+    uint32_t i, j, k, patterns = 0;
+    f->length = 0;
+    put(f, 1);
+    put(f, 64);
+    put(f, 8);
+    for (i = 0; i < 64; i++) {
+        put(f, i % 2 ? 250 : 240);
+        put(f, 130);
+        put(f, 140);
+        put(f, 200);
+    }
+    put(f, 64);
+    for (i = 0; i < 64 && patterns < 64; i += 2)
+        for (j = 1; j < 4; j += 2) {
+            put(f, i);
+            put(f, j);
+            put(f, 16);
+            for (k = 0; k < 16; k++) {
+                put(f, k);
+                put(f, k + 1);
+            }
+            patterns++;
+        }
+    f->tasks = f->length;
+    for (k = 0; k < 48000; k++)
+        f->bytes[f->length++] = (uint8_t)(k % 65);
+    f->processors = 8;
+    f->cycle = 6000;
+    f->count = 64;
+    f->jobs = 1568;
+}
+#endif

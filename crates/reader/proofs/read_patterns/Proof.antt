@@ -1,0 +1,165 @@
+use mathlib.Core.Path.{_≡_, sym, _∙_}
+use Prim.Native.Nat.{_≤_, _-_, _*_}
+use native.Mathlib.Nat.{sub-zero}
+use native.Mathlib.Omega.{arith}
+use Rattle.kinds.specs.Limits.{noKey}
+use Rattle.reader.specs.Tables.{patternTables, patternsFrom}
+use Rattle.reader.specs.Bounds.{spans-low, links-low, heading-bounds}
+use Rattle.reader.specs.Turns.{patterns-refused, patterns-stop, patterns-turn, patterns-none}
+use borrow.Author.Needs.{needs}
+use Rattle.reader.proofs.read_patterns.Statement.{statement}
+use Rattle.reader.proofs.read_patterns.Tie as tie
+
+abbrev Inv-loop : tie.InvT-loop
+Inv-loop file start edition tasks h n period from₀ to₀ pairs₀ first₀ second₀ at₀ low₀ used₀ links₀ i₀ from to pairs first second at low used links i =
+    (i ≤ n) × (used ≤ 1024) × (links ≤ 6144000 * i)
+    × (patternsFrom file edition period tasks h (n - i) i at low used links (patternTables from to pairs first second) ≡ patternsFrom file edition period tasks h n 0 start noKey 0 0 (patternTables from₀ to₀ pairs₀ first₀ second₀))
+
+abbrev μ-loop : tie.MeasureT-loop
+μ-loop file start edition tasks h n period from₀ to₀ pairs₀ first₀ second₀ at₀ low₀ used₀ links₀ i₀ from to pairs first second at low used links i = n - i
+
+loop-holds : tie.Need-loop-holds Inv-loop μ-loop
+loop-holds c = (search needs, search needs, search needs, rw sub-zero)
+
+read-heading-requires : tie.Need-read-heading-requires Inv-loop μ-loop
+read-heading-requires c κs = search needs
+
+enum-known-r : tie.Need-enum-known-r Inv-loop μ-loop
+enum-known-r c = search needs
+
+returns : tie.Need-returns Inv-loop μ-loop
+returns c = sym (patterns-refused _ _ _ _ _ _ _ _ _ _ _ _ (c .before .before .before .before .loop-test .taken) (sym (c .before .before .before .read-heading .ensures) ∙ c .before .r .given .1)) ∙ c .before .before .before .before .before .loop .inv .3
+
+enum-known-x : tie.Need-enum-known-x Inv-loop μ-loop
+enum-known-x c = search needs
+
+cast-s : tie.Need-cast-s Inv-loop μ-loop
+cast-s c = search needs
+
+mul-s : tie.Need-mul-s Inv-loop μ-loop
+mul-s c = search needs
+
+element-copy-out-s : tie.Need-element-copy-out-s Inv-loop μ-loop
+element-copy-out-s c = omega (arith, c .before .before .before .before .before .before .before .pre, heading-bounds _ _ _ _ _ _ _ _ _ (c .before .before .before .read-heading .ensures) (c .before .x .given .1) .from-low)
+
+cast-t : tie.Need-cast-t Inv-loop μ-loop
+cast-t c = search needs
+
+mul-t : tie.Need-mul-t Inv-loop μ-loop
+mul-t c = search needs
+
+element-copy-out-t : tie.Need-element-copy-out-t Inv-loop μ-loop
+element-copy-out-t c = omega (arith, c .before .before .before .before .before .before .before .before .pre, heading-bounds _ _ _ _ _ _ _ _ _ (c .before .before .before .before .read-heading .ensures) (c .before .before .x .given .1) .to-low)
+
+spans-of-requires : tie.Need-spans-of-requires Inv-loop μ-loop
+spans-of-requires c κs = search needs
+
+cast-k : tie.Need-cast-k Inv-loop μ-loop
+cast-k c = search needs
+
+mul-from : tie.Need-mul-from Inv-loop μ-loop
+mul-from c = search needs
+
+element-write-from : tie.Need-element-write-from Inv-loop μ-loop
+element-write-from c = omega arith
+
+mul-to : tie.Need-mul-to Inv-loop μ-loop
+mul-to c = search needs
+
+element-write-to : tie.Need-element-write-to Inv-loop μ-loop
+element-write-to c = omega arith
+
+mul-pairs : tie.Need-mul-pairs Inv-loop μ-loop
+mul-pairs c = search needs
+
+element-write-pairs : tie.Need-element-write-pairs Inv-loop μ-loop
+element-write-pairs c = omega arith
+
+read-pairs-requires : tie.Need-read-pairs-requires Inv-loop μ-loop
+read-pairs-requires c κs = let b = spans-low _ _ _ (c .before .before .spans-of .ensures) in
+    (heading-bounds _ _ _ _ _ _ _ _ _ (c .before .before .before .before .before .before .before .before .read-heading .ensures) (c .before .before .before .before .before .before .x .given .1) .room, b .0, b .1)
+
+enum-known-r-2 : tie.Need-enum-known-r-2 Inv-loop μ-loop
+enum-known-r-2 c = search needs
+
+returns-2 : tie.Need-returns-2 Inv-loop μ-loop
+returns-2 c = sym
+    (patterns-stop _ _ _ _ _ _ _ _ _ _ _ _ (c .before .before .before .before .before .before .before .before .before .before .before .before .before .loop-test .taken) (sym (c .before .before .before .before .before .before .before .before .before .before .before .before .read-heading .ensures) ∙ c .before .before .before .before .before .before .before .before .before .before .x .given .1) (c .before .before .before .before .before .before .spans-of .ensures)
+    (c .before .before .before .read-pairs .ensures)
+    (c .before .r2 .given .1))
+    ∙ c .before .before .before .before .before .before .before .before .before .before .before .before .before .before .loop .inv .3
+
+enum-known-q : tie.Need-enum-known-q Inv-loop μ-loop
+enum-known-q c = search needs
+
+add-t47 : tie.Need-add-t47 Inv-loop μ-loop
+add-t47 c = omega (arith, c .before .before .before .before .before .before .before .before .before .before .before .before .before .before .before .before .pre, heading-bounds _ _ _ _ _ _ _ _ _ (c .before .before .before .before .before .before .before .before .before .before .before .before .read-heading .ensures) (c .before .before .before .before .before .before .before .before .before .before .x .given .1) .to-low)
+
+add-used : tie.Need-add-used Inv-loop μ-loop
+add-used c = omega (arith, heading-bounds _ _ _ _ _ _ _ _ _ (c .before .before .before .before .before .before .before .before .before .before .before .before .read-heading .ensures) (c .before .before .before .before .before .before .before .before .before .before .x .given .1) .room)
+
+links-in-requires : tie.Need-links-in-requires Inv-loop μ-loop
+links-in-requires c κs = search needs
+
+add-links : tie.Need-add-links Inv-loop μ-loop
+add-links c = omega (arith, c .before .before .before .before .before .before .before .before .before .before .before .before .before .before .before .before .before .pre, links-low _ _ _ (c .links-in .ensures) (heading-bounds _ _ _ _ _ _ _ _ _ (c .before .before .before .before .before .before .before .before .before .before .before .before .before .read-heading .ensures) (c .before .before .before .before .before .before .before .before .before .before .before .x .given .1)) (c .before .before .before .before .before .before .before .before .before .before .before .before .before .before .before .before .before .pre .2))
+
+add-i : tie.Need-add-i Inv-loop μ-loop
+add-i c = omega arith
+
+loop-less : tie.Need-loop-less Inv-loop μ-loop
+loop-less c = omega arith
+
+loop-again : tie.Need-loop-again Inv-loop μ-loop
+loop-again c = let b = heading-bounds _ _ _ _ _ _ _ _ _ (c .before .before .before .before .before .before .before .before .before .before .before .before .before .read-heading .ensures) (c .before .before .before .before .before .before .before .before .before .before .before .x .given .1) in (
+  omega arith,
+  omega (arith, b .room),
+  omega (arith, links-low _ _ _ (c .links-in .ensures) b (c .before .before .before .before .before .before .before .before .before .before .before .before .before .before .before .before .before .pre .2)),
+  rw (c .links-in .ensures)
+      (sym
+      (patterns-turn _ _ _ _ _ _ _ _ _ _ _ _ (c .before .before .before .before .before .before .before .before .before .before .before .before .before .before .loop-test .taken) (sym (c .before .before .before .before .before .before .before .before .before .before .before .before .before .read-heading .ensures) ∙ c .before .before .before .before .before .before .before .before .before .before .before .x .given .1) (c .before .before .before .before .before .before .before .spans-of .ensures)
+      (c .before .before .before .before .read-pairs .ensures)
+      (c .before .before .q .given .1))
+      ∙ c .before .before .before .before .before .before .before .before .before .before .before .before .before .before .before .loop .inv .3),
+)
+
+returns-3 : tie.Need-returns-3 Inv-loop μ-loop
+returns-3 c = sym (patterns-none _ _ _ _ _ _ _ _ _ _ _ _ (c .loop-test .left)) ∙ c .before .loop .inv .3
+
+pub read-patterns-spec : {M : Type 1} → statement M
+read-patterns-spec =
+    tie.close
+    (tie.spec
+    Inv-loop
+    μ-loop
+    loop-holds
+    read-heading-requires
+    enum-known-r
+    returns
+    enum-known-x
+    cast-s
+    mul-s
+    element-copy-out-s
+    cast-t
+    mul-t
+    element-copy-out-t
+    spans-of-requires
+    cast-k
+    mul-from
+    element-write-from
+    mul-to
+    element-write-to
+    mul-pairs
+    element-write-pairs
+    read-pairs-requires
+    enum-known-r-2
+    returns-2
+    enum-known-q
+    add-t47
+    add-used
+    links-in-requires
+    add-links
+    add-i
+    loop-less
+    loop-again
+    returns-3)
