@@ -11,7 +11,6 @@
 static volatile uint32_t sink;
 static made file;
 static plain_set set;
-static uint8_t state[2][21], out[2][8];
 
 static double now(void)
 {
@@ -26,6 +25,8 @@ static size_t slot_count(void) { return file.length - file.tasks; }
 /* The jobs, each in both ways. A step goes on from the last state, so that a whole cycle is played. */
 static void read_archive(void) { sink = flute_read(file.bytes, file.length); }
 static void read_plain(void) { sink = plain_read(file.bytes, file.length, &set).number; }
+#ifndef READ_ONLY
+static uint8_t state[2][21], out[2][8];
 static void screen_archive(void) { sink = flute_screen(file.bytes, file.tasks); }
 static void screen_plain(void) { sink = plain_screen(file.bytes, file.tasks).number; }
 static void judge_archive(void) { sink = flute_judge(file.bytes, file.tasks, slots(), slot_count()); }
@@ -34,6 +35,7 @@ static void start_archive(void) { sink = flute_start(file.bytes, file.tasks, slo
 static void start_plain(void) { sink = plain_start(file.bytes, file.tasks, slots(), slot_count(), state[1], 21).number; }
 static void step_archive(void) { sink = flute_step(file.bytes, file.tasks, slots(), slot_count(), 0, state[0], 21, out[0], file.processors); }
 static void step_plain(void) { sink = plain_step(file.bytes, file.tasks, slots(), slot_count(), 0, state[1], 21, out[1], file.processors).number; }
+#endif
 
 static double once(void (*job)(void), long turns)
 {
@@ -63,12 +65,14 @@ static void measure_all(const char *name)
 {
     printf("%s (%u tasks, %u processors, cycle %u)\n", name, file.count, file.processors, file.cycle);
     measure("read", read_archive, read_plain);
+#ifndef READ_ONLY
     measure("screen", screen_archive, screen_plain);
     measure("judge", judge_archive, judge_plain);
     measure("start", start_archive, start_plain);
     start_archive();
     start_plain();
     measure("step", step_archive, step_plain);
+#endif
 }
 
 static int load(const char *path)
@@ -94,6 +98,12 @@ int main(int argc, char **argv)
     measure_all("largest plan");
     longest_file(&file);
     printf("longest file (64 patterns, 1,024 pairs)\n");
+    measure("read", read_archive, read_plain);
+    periods(&file, 240, 250);
+    printf("64 tasks of two periods, no pattern\n");
+    measure("read", read_archive, read_plain);
+    periods(&file, 250, 250);
+    printf("64 tasks of one period: the difference is the share of the common multiple\n");
     measure("read", read_archive, read_plain);
     if (argc > 1 && load(argv[1]))
         measure_all("flight software");

@@ -106,4 +106,22 @@ static void longest_file(made *f)
     f->count = 64;
     f->jobs = 1568;
 }
+
+/* A head of 64 tasks with two periods in turn, and no pattern: its file ends there, which the reader refuses after all of the head's work. */
+static void periods(made *f, uint32_t a, uint32_t b)
+{
+    uint32_t i;
+    f->length = 0;
+    put(f, 1);
+    put(f, 64);
+    put(f, 8);
+    for (i = 0; i < 64; i++) {
+        put(f, i % 2 ? a : b);
+        put(f, 130);
+        put(f, 140);
+        put(f, 200);
+    }
+    put(f, 0);
+    f->tasks = f->length;
+}
 #endif

@@ -22,6 +22,7 @@ static inline plain_answer call_read(const uint8_t *f, size_t n)
     return r
 
 static inline plain_answer call_read(const uint8_t *f, size_t n) { CALL(flute_read, f, n); }
+#ifndef READ_ONLY
 static inline plain_answer call_screen(const uint8_t *t, size_t n) { CALL(flute_screen, t, n); }
 static inline plain_answer call_adjust(const uint8_t *t, size_t n, int32_t *r0, size_t rn, int32_t *d, size_t dn)
 {
@@ -37,5 +38,6 @@ static inline plain_answer call_step(const uint8_t *t, size_t n, const uint8_t *
 {
     CALL(flute_step, t, n, p, pn, rep, s, sn, o, on);
 }
+#endif
 #endif
 #endif

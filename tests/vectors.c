@@ -81,6 +81,7 @@ static int run_reader(char *p)
     return compare(call_read(file.bytes, file.length), p);
 }
 
+#ifndef READ_ONLY
 static int run_judge(char *p)
 {
     static bytes tasks, plan;
@@ -159,10 +160,16 @@ static int run_step(char *p)
     return 1;
 }
 
+#endif
+
 static const struct {
     const char *name;
     int (*run)(char *);
-} kinds[] = {{"reader", run_reader}, {"judge", run_judge}, {"screen", run_screen}, {"adjusted", run_adjusted}, {"step", run_step}};
+} kinds[] = {{"reader", run_reader},
+#ifndef READ_ONLY
+           {"judge", run_judge}, {"screen", run_screen}, {"adjusted", run_adjusted}, {"step", run_step}
+#endif
+};
 
 int main(int argc, char **argv)
 {
