@@ -5,3 +5,7 @@ pub mod Reach
 pub mod Settle
 pub mod Sub
 pub mod Equation
+pub mod Pass
+pub mod Cycle
+pub mod Ranked
+pub mod Listed

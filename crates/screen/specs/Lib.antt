@@ -5,3 +5,9 @@ pub mod Findings
 pub mod NetworkLaws
 pub mod Order
 pub mod TimesLaws
+pub mod Spread
+pub mod Timed
+pub mod Signs
+pub mod Written
+pub mod Named
+pub mod Outcome

@@ -1,0 +1,190 @@
+-- Rounds in place over a list of links, and what they leave.
+use mathlib.Core.Path.{_≡_, refl, sym, ap, _∙_}
+use mathlib.Core.Bool.{Bool, true, false}
+use mathlib.Core.List.{List}
+use mathlib.Core.Logic.{_⊎_, inl, inr, ⊎-elim}
+use Prim.Native.Nat.{ℕ, zero, suc, _+_, _*_, _≤_, _<_, min, max}
+use native.Mathlib.Numerals.{add-one}
+use native.Mathlib.Omega.{arith}
+use lib.ListN.{length, getD, set, length-set}
+use lib.Seq.{getD-set-same, getD-set-other}
+use borrow.Author.Count.{below-more}
+use Rattle.vocabulary.specs.Test.{clash, lt-or-le, eq-or-ne}
+use Rattle.graph.specs.Graph.{Graph, Inside, graphOf}
+use Rattle.graph.specs.Reach.{Free}
+use Rattle.graph.specs.Longest.{entry, rounds}
+use Rattle.graph.specs.Settle.{Over, entry-under, rounds-bound, solves-over, rounds-solve}
+
+-- above every number of a set without a cycle
+abbrev pub limit : ℕ
+limit = 16777216
+
+abbrev pub at : List ℕ → ℕ → ℕ
+at xs x = getD xs x 0
+
+-- links between jobs, a weight and a number per job
+pub record Lined (f t w v : List ℕ) : Type 0 where
+  pub long : length t ≡ length f
+  pub weights : length w ≡ length v
+  pub starts : (k : ℕ) → k < length f → at f k < length v
+  pub ends : (k : ℕ) → k < length f → at t k < length v
+  pub light : (x : ℕ) → x < length v → at w x ≤ limit
+  pub low : (x : ℕ) → x < length v → at v x ≤ limit
+
+pub lined-inside : (f t w v : List ℕ) → Lined f t w v → Inside (graphOf f t (length v))
+lined-inside f t w v l = record { starts = l .starts; ends = l .ends }
+
+-- ---- one link
+pub record Raised (w : List ℕ) (a b : ℕ) (v v′ : List ℕ) (r : Bool) : Type 0 where
+  pub long : length v′ ≡ length v
+  pub grow : (x : ℕ) → at v x ≤ at v′ x
+  pub got : min (at v a + at w a) limit ≤ at v′ b
+  pub low : (x : ℕ) → at v x ≤ limit → at v′ x ≤ limit
+  pub under : (s : ℕ → ℕ) → at v a ≤ s a → s a + at w a ≤ s b → (x : ℕ) → at v x ≤ s x → at v′ x ≤ s x
+  pub still : r ≡ false → v′ ≡ v
+
+pub raised : (w : List ℕ) (a b : ℕ) (v : List ℕ) (u : ℕ) → u ≡ min (at v a + at w a) limit → at v b < u → b < length v → Raised w a b v (set v b u) true
+raised w a b v u e l lb =
+    record {
+      long = length-set v b u;
+      grow = λ x. ⊎-elim (λ q. omega (arith, here x q, ap (at v) q)) (λ q. omega (arith, there x q)) (eq-or-ne x b);
+      got = omega (arith, here b refl);
+      low = λ x h. ⊎-elim (λ q. omega (arith, here x q)) (λ q. omega (arith, there x q)) (eq-or-ne x b);
+      under = λ s ha hs x h. ⊎-elim (λ q. omega (arith, here x q, ap s q)) (λ q. omega (arith, there x q)) (eq-or-ne x b);
+      still = λ p. clash refl p;
+    }
+  where
+    here : (x : ℕ) → x ≡ b → at (set v b u) x ≡ u
+    here x q = ap (at (set v b u)) q ∙ getD-set-same v b u 0 lb
+
+    there : (x : ℕ) → (x ≡ b → ⊥) → at (set v b u) x ≡ at v x
+    there x q = getD-set-other v b x u 0 q
+
+pub not-raised : (w : List ℕ) (a b : ℕ) (v : List ℕ) (u : ℕ) → u ≡ min (at v a + at w a) limit → u ≤ at v b → Raised w a b v v false
+not-raised w a b v u e l =
+    record { long = refl; grow = λ x. omega arith; got = omega arith; low = λ x h. h; under = λ s ha hs x h. h; still = λ p. refl }
+
+-- ---- all links, up to link k
+pub record Passing (f t w v v′ : List ℕ) (k : ℕ) (r : Bool) : Type 0 where
+  pub within : k ≤ length f
+  pub long : length v′ ≡ length v
+  pub low : (x : ℕ) → x < length v → at v′ x ≤ limit
+  pub grow : (x : ℕ) → at v x ≤ at v′ x
+  pub got : (j : ℕ) → j < k → min (at v (at f j) + at w (at f j)) limit ≤ at v′ (at t j)
+  pub under : (s : ℕ → ℕ) → ((j : ℕ) → j < length f → s (at f j) + at w (at f j) ≤ s (at t j)) → ((x : ℕ) → x < length v → at v x ≤ s x) → (x : ℕ) → x < length v → at v′ x ≤ s x
+  pub still : r ≡ false → v′ ≡ v
+
+abbrev pub Passed : List ℕ → List ℕ → List ℕ → List ℕ → List ℕ → Bool → Type 0
+Passed f t w v v′ r = Passing f t w v v′ (length f) r
+
+pub pass-from : (f t w v : List ℕ) → Lined f t w v → Passing f t w v v 0 false
+pass-from f t w v l =
+    record { within = omega arith; long = refl; low = l .low; grow = λ x. omega arith; got = λ j h. absurd (omega arith); under = λ s hs h. h; still = λ p. refl }
+
+-- what `raise` asks
+pub pass-asks : (f t w v u : List ℕ) (k : ℕ) (r : Bool) → Lined f t w v → Passing f t w v u k r → k < length f → (at f k < length u) × (at t k < length u) × (length w ≡ length u) × (at u (at f k) ≤ limit) × (at w (at f k) ≤ limit)
+pass-asks f t w v u k r l p lk =
+    (omega (arith, l .starts k lk, p .long), omega (arith, l .ends k lk, p .long), l .weights ∙ sym (p .long), p .low (at f k) (l .starts k lk), l .light (at f k) (l .starts k lk))
+
+-- a turn: r′ is whether anything has changed by now
+pub pass-on : (f t w v u u′ : List ℕ) (k : ℕ) (r c r′ : Bool) → Lined f t w v → Passing f t w v u k r → k < length f → Raised w (at f k) (at t k) u u′ c → (r′ ≡ false → (r ≡ false) × (c ≡ false)) → Passing f t w v u′ (k + 1) r′
+pass-on f t w v u u′ k r c r′ l p lk q h =
+    record {
+      within = omega arith;
+      long = q .long ∙ p .long;
+      low = λ x lx. q .low x (p .low x lx);
+      grow = λ x. omega (arith, p .grow x, q .grow x);
+      got = below-more (λ (j : ℕ). min (at v (at f j) + at w (at f j)) limit ≤ at u′ (at t j)) k
+          (λ j lj. omega (arith, p .got j lj, q .grow (at t j)))
+          (omega (arith, q .got, p .grow (at f k)));
+      under = λ s hs hv x lx. q .under s (p .under s hs hv (at f k) (l .starts k lk)) (hs k lk) x (p .under s hs hv x lx);
+      still = λ e. let z = h e in q .still (z .1) ∙ p .still (z .0);
+    }
+
+pub pass-end : (f t w v u : List ℕ) (k : ℕ) (r : Bool) → Passing f t w v u k r → length f ≤ k → Passed f t w v u r
+pass-end f t w v u k r p l =
+    record { within = omega arith; long = p .long; low = p .low; grow = p .grow; got = λ j h. p .got j (omega arith); under = p .under; still = p .still }
+
+-- ---- rounds
+-- the numbers stand for round s: at least what s rounds give (up to the limit), at most any family that nothing breaks
+pub record Settling (f t w v v′ : List ℕ) (s : ℕ) : Type 0 where
+  pub long : length v′ ≡ length v
+  pub low : (x : ℕ) → x < length v → at v′ x ≤ limit
+  pub grow : (x : ℕ) → at v x ≤ at v′ x
+  pub reached : (x : ℕ) → x < length v → min (rounds (graphOf f t (length v)) (at v) (at w) s x) limit ≤ at v′ x
+  pub under : (z : ℕ → ℕ) → Over (graphOf f t (length v)) (at v) (at w) z → (x : ℕ) → x < length v → at v′ x ≤ z x
+
+abbrev pub Settled : List ℕ → List ℕ → List ℕ → List ℕ → List ℕ → Type 0
+Settled f t w v v′ = Settling f t w v v′ (length v)
+
+pub settle-from : (f t w v : List ℕ) → Lined f t w v → Settling f t w v v 0
+unfolding rounds
+settle-from f t w v l =
+    record { long = refl; low = l .low; grow = λ x. omega arith; reached = λ x h. omega arith; under = λ z o. o .own }
+
+-- what a pass reads is lined still
+pub still-lined : (f t w v u : List ℕ) (s : ℕ) → Lined f t w v → Settling f t w v u s → Lined f t w u
+still-lined f t w v u s l p =
+    record {
+      long = l .long;
+      weights = l .weights ∙ sym (p .long);
+      starts = λ k h. omega (arith, l .starts k h, p .long);
+      ends = λ k h. omega (arith, l .ends k h, p .long);
+      light = λ x h. l .light x (omega (arith, p .long));
+      low = λ x h. p .low x (omega (arith, p .long));
+    }
+
+-- one round of the equations is passed by a pass
+step : (f t w v u u′ : List ℕ) (y : ℕ → ℕ) → Lined f t w v → ((x : ℕ) → x < length v → min (y x) limit ≤ at u x) → ((x : ℕ) → at v x ≤ at u′ x) → ((j : ℕ) → j < length f → min (at u (at f j) + at w (at f j)) limit ≤ at u′ (at t j)) → (x : ℕ) → x < length v → min (entry (graphOf f t (length v)) (at v) (at w) y x) limit ≤ at u′ x
+step f t w v u u′ y l hy grow got x lx = go (lt-or-le (at u′ x) limit)
+  where
+    go : (at u′ x < limit) ⊎ (limit ≤ at u′ x) → min (entry (graphOf f t (length v)) (at v) (at w) y x) limit ≤ at u′ x
+    go (inl h) =
+        omega (
+          arith,
+          entry-under (graphOf f t (length v)) (at v) (at w) y x (at u′ x) (grow x)
+              (λ k lk e. omega (arith, got k lk, hy (at f k) (l .starts k lk), ap (at u′) e)),
+        )
+    go (inr h) = omega arith
+
+pub settle-on : (f t w v u u′ : List ℕ) (s : ℕ) (r : Bool) → Lined f t w v → Settling f t w v u s → Passed f t w u u′ r → Settling f t w v u′ (s + 1)
+unfolding rounds
+settle-on f t w v u u′ s r l p q =
+    record {
+      long = q .long ∙ p .long;
+      low = λ x h. q .low x (omega (arith, p .long));
+      grow = up;
+      reached = rw add-one (step f t w v u u′ (rounds (graphOf f t (length v)) (at v) (at w) s) l (p .reached) up (q .got));
+      under = λ z o x h. q .under z (o .link) (λ y ly. p .under z o y (omega (arith, p .long))) x (omega (arith, p .long));
+    }
+  where
+    up : (x : ℕ) → at v x ≤ at u′ x
+    up x = omega (arith, p .grow x, q .grow x)
+
+-- a pass that changes nothing has passed every round
+pub settle-still : (f t w v u u′ : List ℕ) (s : ℕ) (r : Bool) → Lined f t w v → Settling f t w v u s → Passed f t w u u′ r → r ≡ false → Settled f t w v u′
+unfolding rounds
+settle-still f t w v u u′ s r l p q hf = let e = q .still hf in rw e
+    (record { long = p .long; low = p .low; grow = p .grow; reached = all (length v); under = p .under })
+  where
+    got : (j : ℕ) → j < length f → min (at u (at f j) + at w (at f j)) limit ≤ at u (at t j)
+    got = let e = q .still hf in rw e at (q .got)
+
+    all : (k x : ℕ) → x < length v → min (rounds (graphOf f t (length v)) (at v) (at w) k x) limit ≤ at u x
+    all zero x h = omega (arith, p .grow x)
+    all (suc k) x h = step f t w v u u (rounds (graphOf f t (length v)) (at v) (at w) k) l (all k) (p .grow) got x h
+
+pub settle-end : (f t w v u : List ℕ) (k : ℕ) → Settling f t w v u k → length u ≤ k → k ≤ length v → Settled f t w v u
+settle-end f t w v u k p l m = let e : k ≡ length v = omega (arith, p .long) in rw e at p
+
+-- ==== without a cycle the numbers are the solution
+pub settled-free : (f t w v u : List ℕ) (B W : ℕ) → Lined f t w v → Settled f t w v u → Free (graphOf f t (length v)) → ((x : ℕ) → x < length v → at v x ≤ B) → ((x : ℕ) → x < length v → at w x ≤ W) → B + length v * W ≤ limit → (x : ℕ) → x < length v → at u x ≡ rounds (graphOf f t (length v)) (at v) (at w) (length v) x
+settled-free f t w v u B W l p free hb hw small x h =
+    let g : Graph = graphOf f t (length v) in
+    let i : Inside g = lined-inside f t w v l in
+    omega (
+      arith,
+      p .reached x h,
+      rounds-bound g (at v) (at w) i B W hb hw (length v) x h,
+      p .under (rounds g (at v) (at w) (length v)) (solves-over g (at v) (at w) i (rounds g (at v) (at w) (length v)) (rounds-solve g (at v) (at w) i free)) x h,
+    )
