@@ -3,3 +3,4 @@ pub mod Order
 pub mod Back
 pub mod Windows
 pub mod Links
+pub mod Window

@@ -1,0 +1,239 @@
+-- The verdict by its ways out: what is left of the chain of rules once those before are kept.
+use mathlib.Core.Path.{_≡_, refl, sym, ap, ap₂, _∙_}
+use mathlib.Core.Bool.{Bool, true, false}
+use mathlib.Core.List.{List}
+use mathlib.Core.Logic.{_⊎_, inl, inr}
+use Prim.Native.Nat.{ℕ, _+_, _*_, _/_, _<_, _≤_}
+use native.Mathlib.Nat.{div-le-self, mul-le-mul}
+use native.Mathlib.Omega.{arith}
+use lib.ListN.{getD, length}
+use borrow.Author.Tests.{eq-eqb, ne-eqb}
+use Rattle.vocabulary.specs.Test.{pick, clash}
+use Rattle.vocabulary.specs.Least.{least, least-is, some, some-at, some-lt, some-ge, none, all, all-from}
+use Rattle.kinds.specs.Limits.{holds, periods}
+use Rattle.kinds.specs.Tasks.{Tasks, Patterns, Set, period, running}
+use Rattle.kinds.specs.Cycle.{cycle, jobsOf, jobsBefore, jobs, onlyPeriods, cycleOf}
+use Rattle.kinds.specs.Jobs.{numberOfJob}
+use Rattle.kinds.specs.Plans.{Plan, plan, planOf, ticks}
+use Rattle.kinds.specs.Sound.{sound}
+use Rattle.kinds.specs.Facts.{Sound, sound-facts}
+use Rattle.kinds.specs.Laws.{holds-yes, cycle-some}
+use Rattle.judge.specs.declared.Verdict.{Verdict}
+use Rattle.judge.specs.declared.Verdict.the-variants as verdict
+use Rattle.judge.specs.Rules.{high, twin, mated, clashes, strays, strayed, miscounts, miscounted}
+use Rattle.judge.specs.Judgement.{highAt, twiceAt, outsideAt, wrongAt, verdictOf}
+use Rattle.judge.specs.Gets.{Told}
+use Rattle.judge.specs.Keys.{Fit, Based}
+use Rattle.judge.specs.Sweep.{Swept}
+use Rattle.judge.specs.High.{all-low}
+use Rattle.judge.specs.Counts.{differs, differing, miscounts-is, miscounted-is, all-counted}
+use Rattle.judge.specs.Asked.{Asked, fit-asked, times, told-times, tabled}
+use Rattle.judge.specs.Linked.{linksVerdict, crossings-are}
+use Rattle.judge.specs.Crossed.{crossings}
+
+-- 22 and what is behind it
+unfoldable pub countsVerdict : Tasks → Patterns → Plan → Verdict
+countsVerdict u v p = pick (some (miscounted u p) (u .count)) (wrongAt u p) (linksVerdict u v p)
+
+-- 20 and what is behind it
+unfoldable pub rowsVerdict : Tasks → Patterns → Plan → Verdict
+rowsVerdict u v p =
+    pick (some (clashes p) (p .cycle)) (twiceAt p)
+    (pick (some (strayed u p) (p .cycle)) (outsideAt u p)
+    (countsVerdict u v p))
+
+-- 12 and what is behind it
+unfoldable pub slotsVerdict : Tasks → Patterns → Plan → Verdict
+slotsVerdict u v p =
+    pick (some (high (p .slots) (u .count)) (length (p .slots))) (verdict.BadSlot (least (high (p .slots) (u .count)) (length (p .slots))))
+    (rowsVerdict u v p)
+
+-- ---- 10 and 11
+module _ (s : Set) (slots : List ℕ) where
+  pub bad-set : sound s ≡ false → verdict.BadSet ≡ verdictOf s slots
+  unfolding verdictOf
+  bad-set e = rw e
+
+  module _ (e : sound s ≡ true) where
+    pub wrong-length : (length slots ≡ s .processors * cycle (s .tasks) → ⊥) → verdict.WrongLength ≡ verdictOf s slots
+    unfolding verdictOf
+    wrong-length h = rw (e, ne-eqb (length slots) (s .processors * cycle (s .tasks)) h)
+
+    pub right-length : length slots ≡ s .processors * cycle (s .tasks) → slotsVerdict (s .tasks) (s .patterns) (planOf s slots) ≡ verdictOf s slots
+    unfolding verdictOf slotsVerdict rowsVerdict countsVerdict linksVerdict highAt
+    right-length h = rw (e, eq-eqb (length slots) (s .processors * cycle (s .tasks)) h)
+
+-- the cycle that the code finds of a sound set
+pub cycle-found : (s : Set) → Sound s → cycleOf (s .tasks .periods) (s .tasks .count) .ticks ≡ cycle (s .tasks)
+unfolding cycle jobs jobsBefore jobsOf
+cycle-found s f =
+    let ps : List ℕ = s .tasks .periods in
+    let n : ℕ = s .tasks .count in
+    let fit : all (λ i. holds periods (getD ps i 0)) n ≡ true = all-from (λ i. holds periods (getD ps i 0)) n (λ i l. holds-yes 1 6001 (getD ps i 0) (f .some-period i l) (omega (arith, f .low-period i l))) in
+    ap (λ c. c .ticks) (sym (cycle-some ps n {h = cycle (onlyPeriods ps n)} {j = jobs (onlyPeriods ps n)} (f .few-tasks) fit refl (f .low-cycle) refl (f .few-jobs)))
+
+-- with the numbers that the code has: m processors, h ticks a cycle, and x the same
+module _ (s : Set) (slots : List ℕ) (m h x : ℕ) (e : sound s ≡ true) (em : m ≡ s .processors) (eh : h ≡ cycleOf (s .tasks .periods) (s .tasks .count) .ticks) (ex : x ≡ h) where
+  f : Sound s
+  f = sound-facts s e
+
+  is-cycle : h ≡ cycle (s .tasks)
+  is-cycle = eh ∙ cycle-found s f
+
+  -- the product fits
+  pub few-places : m * x ≤ 48000
+  few-places = mul-le-mul {n₁ = m} {m₁ = x} {n₂ = 8} {m₂ = 6000} (omega (arith, em, f .few-processors)) (omega (arith, is-cycle, ex, f .low-cycle))
+
+  product : m * x ≡ s .processors * cycle (s .tasks)
+  product = ap₂ (λ (a b : ℕ). a * b) em (ex ∙ is-cycle)
+
+  pub other-length : (length slots ≡ m * x → ⊥) → verdict.WrongLength ≡ verdictOf s slots
+  other-length n = wrong-length s slots e (λ q. n (q ∙ sym product))
+
+  pub asked-set : length slots ≡ m * x → Asked (s .tasks) (s .patterns) (plan slots m h)
+  asked-set q =
+      record {
+        edition = s .edition;
+        sound = rw em f;
+        ticks = is-cycle;
+        long = q ∙ ap (λ (y : ℕ). m * y) ex;
+      }
+
+  pub judged : length slots ≡ m * x → slotsVerdict (s .tasks) (s .patterns) (plan slots m h) ≡ verdictOf s slots
+  judged q = rw (em, is-cycle) (right-length s slots e (q ∙ product))
+
+-- ---- 12
+module _ (u : Tasks) (v : Patterns) (p : Plan) (e : ℕ) (q : e ≡ least (high (p .slots) (u .count)) (length (p .slots))) where
+  pub high-slot : e < length (p .slots) → verdict.BadSlot e ≡ slotsVerdict u v p
+  unfolding slotsVerdict
+  high-slot l = rw (some-lt (high (p .slots) (u .count)) (length (p .slots)) e q l, ← q)
+
+  none-high : length (p .slots) ≤ e → some (high (p .slots) (u .count)) (length (p .slots)) ≡ false
+  none-high l = some-ge (high (p .slots) (u .count)) (length (p .slots)) e q l
+
+  pub low-slots : length (p .slots) ≤ e → rowsVerdict u v p ≡ slotsVerdict u v p
+  unfolding slotsVerdict
+  low-slots l = rw (none-high l)
+
+  pub fit-slots : Asked u v p → length (p .slots) ≤ e → Fit u p
+  fit-slots a l = fit-asked u v p a (all-low (p .slots) (u .count) (none-high l))
+
+-- ---- 20 and 21, where one of the two is broken
+-- the two lowest processors of tick c that show one task
+unfoldable pub twiceIn : Plan → ℕ → Verdict
+twiceIn p c = let q : ℕ = least (mated p c) (p .processors) in verdict.Twice c q (least (twin p c q) (p .processors))
+
+pub twice-in : (p : Plan) (c q r : ℕ) → q ≡ least (mated p c) (p .processors) → r ≡ least (twin p c q) (p .processors) → verdict.Twice c q r ≡ twiceIn p c
+unfolding twiceIn
+twice-in p c q r eq er = rw (← eq, ← er)
+
+-- evidence is in range
+pub mated-low : (p : Plan) (c q : ℕ) → clashes p c ≡ true → q ≡ least (mated p c) (p .processors) → q < p .processors
+unfolding clashes
+mated-low p c q h e = omega (arith, some-at (mated p c) (p .processors) h .0)
+
+pub least-low : (f : ℕ → Bool) (n r : ℕ) → r ≡ least f n → r ≤ n
+least-low f n r e = omega (arith, least-is f n .within)
+
+pub least-found : (f : ℕ → Bool) (n r : ℕ) → some f n ≡ true → r ≡ least f n → (r < n) × (f r ≡ true)
+least-found f n r h e = let w = some-at f n h in (omega (arith, w .0), ap f e ∙ w .1)
+
+pub outside-found : (u : Tasks) (p : Plan) (c q : ℕ) → c ≡ least (strayed u p) (p .cycle) → q ≡ least (strays u p c) (p .processors) → verdict.Outside c q ≡ outsideAt u p
+unfolding outsideAt
+outside-found u p c q ec eq = rw (← ec, ← eq)
+
+-- what the searches for evidence answer
+unfoldable pub misplacedVerdict : Tasks → Plan → Verdict
+misplacedVerdict u p = pick (some (clashes p) (p .cycle)) (twiceAt p) (outsideAt u p)
+
+module _ (u : Tasks) (p : Plan) (c : ℕ) (e : c ≡ least (clashes p) (p .cycle)) where
+  pub misplaced-twice : c < p .cycle → twiceIn p c ≡ misplacedVerdict u p
+  unfolding misplacedVerdict twiceAt twiceIn
+  misplaced-twice l = rw (some-lt (clashes p) (p .cycle) c e l, ← e)
+
+  pub misplaced-outside : p .cycle ≤ c → outsideAt u p ≡ misplacedVerdict u p
+  unfolding misplacedVerdict
+  misplaced-outside l = rw (some-ge (clashes p) (p .cycle) c e l)
+
+  pub misplaced-strayed : p .cycle ≤ c → (some (clashes p) (p .cycle) ≡ true) ⊎ (some (strayed u p) (p .cycle) ≡ true) → some (strayed u p) (p .cycle) ≡ true
+  misplaced-strayed l (inl h) = clash h (some-ge (clashes p) (p .cycle) c e l)
+  misplaced-strayed l (inr h) = h
+
+pub swept-bad : (u : Tasks) (v : Patterns) (p : Plan) (cs fs ls : List ℕ) (r : Bool) → Swept (times u) p r cs fs ls → r ≡ false → misplacedVerdict (times u) p ≡ rowsVerdict u v p
+unfolding misplacedVerdict rowsVerdict outsideAt strayed strays
+swept-bad u v p cs fs ls r w er = go (some (clashes p) (p .cycle)) refl (w .bad er)
+  where
+    go : (b : Bool) → some (clashes p) (p .cycle) ≡ b → (some (clashes p) (p .cycle) ≡ true) ⊎ (some (strayed (times u) p) (p .cycle) ≡ true) → pick b (twiceAt p) (outsideAt (times u) p) ≡ pick b (twiceAt p) (pick (some (strayed u p) (p .cycle)) (outsideAt u p) (countsVerdict u v p))
+    go true e h = refl
+    go false e (inl h) = clash h e
+    go false e (inr h) = rw h
+
+-- ---- 22
+-- what the lowest wrong job of task i gets, by its entry
+unfoldable pub wrongEntry : ℕ → List ℕ → List ℕ → List ℕ → List ℕ → ℕ → Verdict
+wrongEntry h ts rs bs cs i =
+    let k : ℕ = least (differs cs (getD bs i 0) (getD rs i 0)) (h / getD ts i 0) in
+    verdict.WrongCount i k (getD cs (getD bs i 0 + k) 0)
+
+-- what the search for it asks
+pub record Differing (h : ℕ) (ts rs bs cs : List ℕ) (i : ℕ) : Type 0 where
+  pub few : i < 64
+  pub low : h ≤ 6000
+  pub period : 0 < getD ts i 0
+  pub room : getD bs i 0 + h / getD ts i 0 ≤ 2048
+  pub wrong : differing h ts rs bs cs i ≡ true
+
+module _ (h : ℕ) (ts rs bs cs : List ℕ) (i b j k : ℕ) (f : Differing h ts rs bs cs i) (eb : b ≡ getD bs i 0) (ej : j ≡ h / getD ts i 0) (ek : k ≡ least (differs cs b (getD rs i 0)) j) where
+  at : k ≡ least (differs cs (getD bs i 0) (getD rs i 0)) (h / getD ts i 0)
+  at = ek ∙ ap₂ (λ (x y : ℕ). least (differs cs x (getD rs i 0)) y) eb ej
+
+  pub wrong-low : (b + k < 2048) × (k ≤ 6000)
+  unfolding differing
+  wrong-low =
+      let w = some-at (differs cs (getD bs i 0) (getD rs i 0)) (h / getD ts i 0) (f .wrong) .0 in
+      (omega (arith, at, f .room), omega (arith, at, div-le-self h (getD ts i 0), f .low))
+
+  pub wrong-entry : verdict.WrongCount i k (getD cs (b + k) 0) ≡ wrongEntry h ts rs bs cs i
+  unfolding wrongEntry
+  wrong-entry = rw (← at, eb)
+
+module _ (u : Tasks) (v : Patterns) (p : Plan) (bs cs fs ls : List ℕ) (r : Bool) (a : Asked u v p) (g : Based u bs) (w : Swept (times u) p r cs fs ls) (er : r ≡ true) where
+  t : Told u p cs fs ls
+  t = told-times u p cs fs ls (w .good er .told)
+
+  clean : rowsVerdict u v p ≡ countsVerdict u v p
+  unfolding rowsVerdict strayed strays
+  clean =
+      rw (none (clashes p) (p .cycle) (w .good er .once), none (strayed u p) (p .cycle) (w .good er .inside))
+
+  module _ (i : ℕ) (ei : i ≡ least (differing (p .cycle) (u .periods) (u .runnings) bs cs) (u .count)) where
+    is-task : i ≡ least (miscounted u p) (u .count)
+    is-task = ei ∙ miscounted-is u p bs cs fs ls (p .cycle) t g (a .ticks)
+
+    pub differing-at : i < u .count → Fit u p → Differing (p .cycle) (u .periods) (u .runnings) bs cs i
+    unfolding jobs jobsOf
+    differing-at l f =
+        record {
+          few = omega (arith, f .few-tasks);
+          low = f .low-cycle;
+          period = f .some-period i l;
+          room = tabled u v p bs a g .room i l;
+          wrong = rw ei (least-is (differing (p .cycle) (u .periods) (u .runnings) bs cs) (u .count) .found (omega (arith, ei)));
+        }
+
+    pub wrong-found : i < u .count → wrongEntry (p .cycle) (u .periods) (u .runnings) bs cs i ≡ rowsVerdict u v p
+    unfolding wrongEntry countsVerdict wrongAt numberOfJob miscounted
+    wrong-found l =
+        let z = least-found (miscounted u p) (u .count) i (some-lt (miscounted u p) (u .count) i is-task l) is-task in
+        let k : ℕ = least (miscounts u p i) (jobsOf u i) in
+        let ek : least (differs cs (getD bs i 0) (running u i)) (p .cycle / period u i) ≡ k = miscounts-is u p bs cs fs ls (p .cycle) t g (a .ticks) i l in
+        let ec : getD cs (jobsBefore u i + k) 0 ≡ ticks u p i k = t .each i k l (some-at (miscounts u p i) (jobsOf u i) (z .1) .0) .number in
+        rw (ek, g .each i l, ec) (sym (clean ∙ rw (some-lt (miscounted u p) (u .count) i is-task l, ← is-task)))
+
+    pub none-wrong : u .count ≤ i → crossings (p .cycle) (u .periods) bs v fs ls ≡ rowsVerdict u v p
+    unfolding countsVerdict
+    none-wrong l =
+        let z : some (miscounted u p) (u .count) ≡ false = some-ge (miscounted u p) (u .count) i is-task l in
+        crossings-are u v p bs a g cs fs ls t
+        (λ j k lj lk. omega (arith, t .each j k lj lk .number, all-counted u p z j k lj lk, a .sound .some-running j lj))
+        ∙ sym (clean ∙ rw z)
