@@ -5,3 +5,8 @@ pub mod Runs
 pub mod Bytes
 pub mod Laws
 pub mod ByteLaws
+pub mod Outcome
+pub mod Tables
+pub mod StepLaws
+pub mod SetLaws
+pub mod Wire

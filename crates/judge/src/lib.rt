@@ -257,7 +257,17 @@ pub fn evidence_of(v: Verdict, which: u32) -> usize
         Verdict::BadSlot(e) => evidence::one_of(which, e),
         Verdict::Twice(t, q, r) => evidence::three_of(which, t as usize, q as usize, r as usize),
         Verdict::Outside(t, q) => evidence::two_of(which, t as usize, q as usize),
-        Verdict::WrongCount(i, k, c) => evidence::three_of(which, i as usize, k as usize, c as usize),
-        Verdict::BrokenLink(k, q, n) => evidence::three_of(which, k as usize, q as usize, n as usize),
+        Verdict::WrongCount(i, k, c) => evidence::three_of(
+            which,
+            i as usize,
+            k as usize,
+            c as usize,
+        ),
+        Verdict::BrokenLink(k, q, n) => evidence::three_of(
+            which,
+            k as usize,
+            q as usize,
+            n as usize,
+        ),
     }
 }

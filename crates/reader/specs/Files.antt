@@ -1,6 +1,6 @@
 -- A whole plan file, "In order: edition (1); task count; m; per task T, C, O, D; pattern count; per pattern from-task, to-task, pair count, pairs;
 -- then m·H slots; then the end."
-use mathlib.Core.Bool.{Bool, true, false}
+use mathlib.Core.Bool.{true, false}
 use mathlib.Core.List.{List}
 use Prim.Native.Nat.{ℕ, zero, suc, _+_, _*_}
 use lib.Dec.{leb, ltb, eqb}

@@ -26,7 +26,8 @@ use Rattle.reader.specs.declared.Head.the-variants as head
 use Rattle.reader.specs.Tables.{TaskTables, TasksRead, PatternTables, noTaskTables, noPatternTables}
 use Rattle.reader.specs.Files.{HeadRead, headRead, headFrom, setOf}
 use Rattle.reader.specs.Through.{opening-fits, MiddleFits, middle-fits}
-use Rattle.reader.specs.Went.{shapeOf, HeadWent, head-went}
+use Rattle.reader.specs.Went.{HeadWent, head-went}
+use Rattle.reader.specs.Turns.{shapeOf}
 use Rattle.reader.specs.Done.{TasksDone, tasks-done, PatternsRow, patternsIn, PatternsDone, patterns-done}
 
 -- the head that is read into tables that are all 0, and its set

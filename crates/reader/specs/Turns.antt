@@ -93,6 +93,9 @@ unfolding slotsFrom
 slots-none s k i at n h = rw (none k i h)
 
 -- ---- the head
+abbrev pub shapeOf : ℕ → ℕ → ℕ → ℕ → ℕ → Shape
+shapeOf e m n k h = record { edition = e; processors = m; tasks = n; patterns = k; ticks = h }
+
 -- what a head answers where its patterns were read
 unfoldable pub closing : Linked → Shape → Head
 closing (linked.At p l) f = pick (leb l mostLinks) (head.Of f p) (head.Refused (refusal.TooManyLinks p))
@@ -123,7 +126,7 @@ by-middle s t u v a b c d f g = rw (← a, b, ← c, d, ← f, g)
 pub by-patterns : (s : List ℕ) (t u : TaskTables) (v x : PatternTables) {o : Opening} {e n m p₀ p₁ h k p₂ : ℕ} {q : Outcome} {w : Middle} {l : Linked} {z : Head}
     → o ≡ openingOf s → o ≡ opening.Of e n m p₀ → tasksRead q u ≡ tasksFrom s n 0 p₀ t → q ≡ outcome.At p₁
     → w ≡ middleFrom s p₁ n (u .periods) → w ≡ middle.Of h k p₂ → patternsRead l x ≡ patternsFrom s e (u .periods) n h k 0 p₂ noKey 0 0 v
-    → z ≡ closing l (record { edition = e; processors = m; tasks = n; patterns = k; ticks = h }) → headRead z u x ≡ headFrom s t v
+    → z ≡ closing l (shapeOf e m n k h) → headRead z u x ≡ headFrom s t v
 unfolding headFrom onOpening onTasks onMiddle
 by-patterns s t u v x {l = l} a b c d f g i j = rw (← a, b, ← c, d, ← f, g, ← i, j) (closing-is l u x _)
 

@@ -30,6 +30,7 @@ use Rattle.reader.specs.declared.Middle.the-variants as middle
 use Rattle.reader.specs.declared.Shape.{Shape}
 use Rattle.reader.specs.declared.Head.the-variants as head
 use Rattle.reader.specs.Tables.{TaskTables, taskFrom, withTask, TasksRead, onTask, tasksFrom, tasksRead, PairTables, twoAt, withPair, PairsRead, onTwo, pairsFrom, pairsRead, PatternTables, headingAt, withPattern, PatternsRead, onHeading, onPairs, patternsFrom, patternsRead}
+use Rattle.reader.specs.Turns.{shapeOf}
 use Rattle.reader.specs.Files.{openingOf, middleFrom, headRead, onOpening, onTasks, onMiddle, onPatterns, headFrom}
 
 pub refused-at : {r : Refusal} {q : ℕ} → outcome.Refused r ≡ outcome.At q → ⊥
@@ -116,9 +117,6 @@ module _ (s : List ℕ) (e : ℕ) (ps : List ℕ) (n h k i at : ℕ) (low : Key)
       by (heading.Refused r) a o = absurd (refused-linked o)
 
 -- ---- the head
-abbrev pub shapeOf : ℕ → ℕ → ℕ → ℕ → ℕ → Shape
-shapeOf e m n k h = record { edition = e; processors = m; tasks = n; patterns = k; ticks = h }
-
 pub record HeadWent (s : List ℕ) (t : TaskTables) (v : PatternTables) (f : Shape) (at : ℕ) : Type 0 where
   pub e : ℕ
   pub n : ℕ

@@ -1,7 +1,7 @@
 // The reader of plan files, edition 1.
 ghost use mathlib.Core.Path.{_≡_};
-ghost use mathlib.Core.Bool.{true, false};
-ghost use Prim.Native.Nat.{ℕ, _+_, _*_, _<_, _≤_};
+ghost use mathlib.Core.Bool.{true};
+ghost use Prim.Native.Nat.{_+_, _*_, _<_, _≤_};
 ghost use lib.ListN.{length, getD};
 ghost use Rattle.kinds.specs.Limits.{range, noKey};
 ghost use Rattle.kinds.specs.Cycle.{periodsFit};
@@ -10,7 +10,7 @@ ghost use Rattle.reader.specs.Numbers.{numberAt, gotAt};
 ghost use Rattle.reader.specs.Bytes.{secondAt, thirdAt};
 ghost use Rattle.reader.specs.Tables.{taskFrom, tasksFrom, tasksRead, taskTables, twoAt, pairsFrom, pairsRead, pairTables, headingAt, patternsFrom, patternsRead, patternTables};
 ghost use Rattle.reader.specs.Files.{openingOf, middleFrom, headRead, headFrom, slotsFrom, refused, readOf, notTaken, takenOf};
-ghost use Rattle.reader.specs.Turns.{closing};
+ghost use Rattle.reader.specs.Turns.{closing, shapeOf};
 use kinds::Key;
 use kinds::TaskSet;
 
@@ -115,6 +115,7 @@ pub struct Taking {
     pub set: TaskSet,
 }
 
+// The byte at a place, as a number.
 fn byte(file: &[u8], at: usize) -> u32
     requires { ⌜ at < length (now file) ⌝ }
     ensures { λ r. ⌜ (r ≡ getD (now (file .entry)) at 0) × (r < 256) ⌝ }
@@ -438,9 +439,7 @@ fn read_patterns(
                 return Linked::Refused(r);
             }
             Heading::Of(x, y, c, p) => {
-                let s = period[x as usize];
-                let t = period[y as usize];
-                let m = kinds::spans_of(edition, s, t);
+                let m = kinds::spans_of(edition, period[x as usize], period[y as usize]);
                 let k = c as usize;
                 from[i] = x;
                 to[i] = y;
@@ -467,8 +466,15 @@ fn read_patterns(
 }
 
 // What the head answers, after its patterns.
-fn close_head(linked: Linked, shape: Shape) -> Head
-    ensures { λ r. ⌜ r ≡ closing linked shape ⌝ }
+fn close_head(
+    linked: Linked,
+    edition: u32,
+    processors: u32,
+    tasks: usize,
+    patterns: usize,
+    ticks: u32,
+) -> Head
+    ensures { λ r. ⌜ r ≡ closing linked (shapeOf edition processors tasks patterns ticks) ⌝ }
 {
     match linked {
         Linked::Refused(r) => Head::Refused(r),
@@ -476,11 +482,21 @@ fn close_head(linked: Linked, shape: Shape) -> Head
             if TaskSet::MOST_LINKS < links {
                 return Head::Refused(Refusal::TooManyLinks(p));
             }
-            Head::Of(shape, p)
+            Head::Of(
+                Shape {
+                    edition,
+                    processors,
+                    tasks,
+                    patterns,
+                    ticks,
+                },
+                p,
+            )
         }
     }
 }
 
+// The answer to a file that is refused.
 fn refuse(r: Refusal) -> Loaded
     ensures { λ l. ⌜ l ≡ refused r ⌝ }
 {
@@ -491,6 +507,7 @@ fn refuse(r: Refusal) -> Loaded
     }
 }
 
+// The answer to bytes that are no head, or more than one.
 fn take_none() -> Taking
     ensures { λ r. ⌜ r ≡ notTaken ⌝ }
 {
@@ -543,16 +560,7 @@ pub fn read_head(
                             first,
                             second,
                         );
-                        close_head(
-                            linked,
-                            Shape {
-                                edition: e,
-                                processors: m,
-                                tasks,
-                                patterns,
-                                ticks: h,
-                            },
-                        )
+                        close_head(linked, e, m, tasks, patterns, h)
                     }
                 },
             }

@@ -33,23 +33,23 @@ returns c = sym (patterns-refused _ _ _ _ _ _ _ _ _ _ _ _ (c .before .before .be
 enum-known-x : tie.Need-enum-known-x Inv-loop μ-loop
 enum-known-x c = search needs
 
-cast-s : tie.Need-cast-s Inv-loop μ-loop
-cast-s c = search needs
+cast-spans-of : tie.Need-cast-spans-of Inv-loop μ-loop
+cast-spans-of c = search needs
 
-mul-s : tie.Need-mul-s Inv-loop μ-loop
-mul-s c = search needs
+mul-spans-of : tie.Need-mul-spans-of Inv-loop μ-loop
+mul-spans-of c = search needs
 
-element-copy-out-s : tie.Need-element-copy-out-s Inv-loop μ-loop
-element-copy-out-s c = omega (arith, c .before .before .before .before .before .before .before .pre, heading-bounds _ _ _ _ _ _ _ _ _ (c .before .before .before .read-heading .ensures) (c .before .x .given .1) .from-low)
+element-copy-out-spans-of : tie.Need-element-copy-out-spans-of Inv-loop μ-loop
+element-copy-out-spans-of c = omega (arith, c .before .before .before .before .before .before .before .pre, heading-bounds _ _ _ _ _ _ _ _ _ (c .before .before .before .read-heading .ensures) (c .before .x .given .1) .from-low)
 
-cast-t : tie.Need-cast-t Inv-loop μ-loop
-cast-t c = search needs
+cast-spans-of-2 : tie.Need-cast-spans-of-2 Inv-loop μ-loop
+cast-spans-of-2 c = search needs
 
-mul-t : tie.Need-mul-t Inv-loop μ-loop
-mul-t c = search needs
+mul-spans-of-2 : tie.Need-mul-spans-of-2 Inv-loop μ-loop
+mul-spans-of-2 c = search needs
 
-element-copy-out-t : tie.Need-element-copy-out-t Inv-loop μ-loop
-element-copy-out-t c = omega (arith, c .before .before .before .before .before .before .before .before .pre, heading-bounds _ _ _ _ _ _ _ _ _ (c .before .before .before .before .read-heading .ensures) (c .before .before .x .given .1) .to-low)
+element-copy-out-spans-of-2 : tie.Need-element-copy-out-spans-of-2 Inv-loop μ-loop
+element-copy-out-spans-of-2 c = omega (arith, c .before .before .before .before .before .before .before .before .pre, heading-bounds _ _ _ _ _ _ _ _ _ (c .before .before .before .before .read-heading .ensures) (c .before .before .x .given .1) .to-low)
 
 spans-of-requires : tie.Need-spans-of-requires Inv-loop μ-loop
 spans-of-requires c κs = search needs
@@ -92,8 +92,8 @@ returns-2 c = sym
 enum-known-q : tie.Need-enum-known-q Inv-loop μ-loop
 enum-known-q c = search needs
 
-add-t47 : tie.Need-add-t47 Inv-loop μ-loop
-add-t47 c = omega (arith, c .before .before .before .before .before .before .before .before .before .before .before .before .before .before .before .before .pre, heading-bounds _ _ _ _ _ _ _ _ _ (c .before .before .before .before .before .before .before .before .before .before .before .before .read-heading .ensures) (c .before .before .before .before .before .before .before .before .before .before .x .given .1) .to-low)
+add-t48 : tie.Need-add-t48 Inv-loop μ-loop
+add-t48 c = omega (arith, c .before .before .before .before .before .before .before .before .before .before .before .before .before .before .before .before .pre, heading-bounds _ _ _ _ _ _ _ _ _ (c .before .before .before .before .before .before .before .before .before .before .before .before .read-heading .ensures) (c .before .before .before .before .before .before .before .before .before .before .x .given .1) .to-low)
 
 add-used : tie.Need-add-used Inv-loop μ-loop
 add-used c = omega (arith, heading-bounds _ _ _ _ _ _ _ _ _ (c .before .before .before .before .before .before .before .before .before .before .before .before .read-heading .ensures) (c .before .before .before .before .before .before .before .before .before .before .x .given .1) .room)
@@ -137,12 +137,12 @@ read-patterns-spec =
     enum-known-r
     returns
     enum-known-x
-    cast-s
-    mul-s
-    element-copy-out-s
-    cast-t
-    mul-t
-    element-copy-out-t
+    cast-spans-of
+    mul-spans-of
+    element-copy-out-spans-of
+    cast-spans-of-2
+    mul-spans-of-2
+    element-copy-out-spans-of-2
     spans-of-requires
     cast-k
     mul-from
@@ -155,7 +155,7 @@ read-patterns-spec =
     enum-known-r-2
     returns-2
     enum-known-q
-    add-t47
+    add-t48
     add-used
     links-in-requires
     add-links

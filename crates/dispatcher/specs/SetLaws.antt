@@ -1,0 +1,114 @@
+-- The step of a set: rules 10 and 11, and what a sound set's tables are. Starting, from the judge's verdict.
+use mathlib.Core.Path.{_≡_, refl, sym, ap, _∙_}
+use mathlib.Core.Bool.{true, false}
+use mathlib.Core.List.{List}
+use Prim.Native.Nat.{ℕ, _*_, _≤_}
+use native.Mathlib.Nat.{le-of-dvd, lt-of-lt-of-le, mul-le-mul}
+use native.Mathlib.Omega.{arith}
+use lib.Dec.{eqb}
+use lib.ListN.{getD, length}
+use borrow.Author.Tests.{eq-eqb, ne-eqb, le-leb}
+use Rattle.vocabulary.specs.Least.{all-from}
+use Rattle.kinds.specs.declared.Cycle.{Cycle}
+use Rattle.kinds.specs.Limits.{holds, periods}
+use Rattle.kinds.specs.Tasks.{Tasks, Set, period}
+use Rattle.kinds.specs.Cycle.{cycle, jobs, jobsBefore, jobsOf, cycleFits, onlyPeriods, periodsFit, cycleOf}
+use Rattle.kinds.specs.Sound.{sound}
+use Rattle.kinds.specs.Facts.{Sound, sound-facts}
+use Rattle.kinds.specs.Laws.{holds-yes}
+use Rattle.judge.specs.declared.Verdict.{Verdict}
+use Rattle.judge.specs.Judgement.{verdictOf}
+use Rattle.dispatcher.specs.declared.State.{State}
+use Rattle.dispatcher.specs.declared.Started.{Started}
+use Rattle.dispatcher.specs.declared.Answer.the-variants as answer
+use Rattle.dispatcher.specs.declared.Stepped.{Stepped}
+use Rattle.dispatcher.specs.Refusals.{startedOf, byCases, stepped, steppedOf, leftOf}
+use Rattle.dispatcher.specs.Outcome.{Outcome}
+use Rattle.dispatcher.specs.Tables.{startedBy, Of, Lent}
+
+-- the cycle of a sound set
+bare-fits : (u : Tasks) → cycle u ≤ 6000 → jobs u ≤ 2048 → cycleFits (onlyPeriods (u .periods) (u .count)) ≡ true
+unfolding cycleFits jobs jobsBefore jobsOf cycle
+bare-fits u a b = rw (le-leb _ _ a, le-leb _ _ b)
+
+bare-cycle : (u : Tasks) → cycle (onlyPeriods (u .periods) (u .count)) ≡ cycle u
+unfolding cycle
+bare-cycle u = refl
+
+pub sound-ticks : (s : Set) → sound s ≡ true → {r : Cycle} → r ≡ cycleOf (s .tasks .periods) (s .tasks .count) → r .ticks ≡ cycle (s .tasks)
+unfolding cycleOf periodsFit
+sound-ticks s t e =
+    let u : Tasks = s .tasks in
+    let f : Sound s = sound-facts s t in
+    ap (λ (x : Cycle). x .ticks) e
+    ∙ rw (
+      le-leb (u .count) 64 (f .few-tasks),
+      all-from (λ i. holds periods (getD (u .periods) i 0)) (u .count) (λ i l. holds-yes 1 6001 (period u i) (f .some-period i l) (let g = f .low-period i l in omega arith)),
+      bare-fits u (f .low-cycle) (f .few-jobs),
+    ) (bare-cycle u)
+
+-- a sound set with m and H as the code has them
+pub record Found (s : Set) (m h : ℕ) : Type 0 where
+  pub sound : sound s ≡ true
+  pub processors : m ≡ s .processors
+  pub ticks : h ≡ cycle (s .tasks)
+
+module _ {s : Set} {m h : ℕ} (f : Found s m h) where
+  facts : Sound s
+  facts = sound-facts s (f .sound)
+
+  pub tables-of : Of s m h (s .tasks .count) (s .tasks .periods) (s .tasks .offsets)
+  tables-of = record { sound = f .sound; processors = sym (f .processors); ticks = sym (f .ticks); count = refl; periods = refl; offsets = refl }
+
+  narrow : m ≤ 8
+  narrow = rw (f .processors) (facts .few-processors)
+
+  short : h ≤ 6000
+  short = rw (f .ticks) (facts .low-cycle)
+
+  pub few-slots : {w : ℕ} → w ≡ h → m * w ≤ 48000
+  few-slots e = rw e (mul-le-mul narrow short)
+
+  pub lent-of : {w : ℕ} (slots out : List ℕ) → w ≡ h → length slots ≡ m * w → length out ≡ m → Lent m h (s .tasks .count) (s .tasks .periods) (s .tasks .offsets) slots out
+  lent-of slots out e a b =
+      record {
+        timed =
+            record {
+              few = facts .few-tasks;
+              short = short;
+              some-period = facts .some-period;
+              low-offset = λ i l. rw (f .ticks) (lt-of-lt-of-le (facts .offset-low i l) (le-of-dvd (facts .some-cycle) (facts .divides i l)));
+            };
+        narrow = narrow;
+        long = a ∙ ap (λ (x : ℕ). m * x) e;
+        room = b;
+      }
+
+  module _ (slots out : List ℕ) (state : State) (report : ℕ) {w : ℕ} (wide : w ≡ h) where
+    slots-are : m * w ≡ s .processors * cycle (s .tasks)
+    slots-are = rw (f .processors, wide, f .ticks)
+
+    -- 11: the plan
+    pub wrong-plan : {t : Stepped} → (length slots ≡ m * w → ⊥) → t ≡ stepped answer.WrongLength state → Outcome s slots state report out t out
+    unfolding steppedOf leftOf byCases
+    wrong-plan n g =
+        let e : eqb (length slots) (s .processors * cycle (s .tasks)) ≡ false = ne-eqb (length slots) (s .processors * cycle (s .tasks)) (λ q. n (q ∙ sym slots-are)) in
+        record { answer = rw (f .sound, e) g; left = rw (f .sound, e) }
+
+    -- 11: the output
+    pub wrong-room : {t : Stepped} → length slots ≡ m * w → (length out ≡ m → ⊥) → t ≡ stepped answer.WrongLength state → Outcome s slots state report out t out
+    unfolding steppedOf leftOf byCases
+    wrong-room l n g =
+        let d : eqb (length slots) (s .processors * cycle (s .tasks)) ≡ true = eq-eqb (length slots) (s .processors * cycle (s .tasks)) (l ∙ slots-are) in
+        let e : eqb (length out) (s .processors) ≡ false = ne-eqb (length out) (s .processors) (λ q. n (q ∙ sym (f .processors))) in
+        record { answer = rw (f .sound, d, e) g; left = rw (f .sound, d, e) }
+
+-- 10
+pub bad-set : (s : Set) (slots out : List ℕ) (state : State) (report : ℕ) {t : Stepped} → sound s ≡ false → t ≡ stepped answer.BadSet state → Outcome s slots state report out t out
+unfolding steppedOf leftOf byCases
+bad-set s slots out state report e g = record { answer = rw e g; left = rw e }
+
+-- ---- starting
+pub started-is : (s : Set) (slots : List ℕ) (state : State) {v : Verdict} {r : Started} → v ≡ verdictOf s slots → r ≡ startedBy v state → r ≡ startedOf s slots state
+unfolding startedOf
+started-is s slots state e g = g ∙ ap (λ (v : Verdict). startedBy v state) e
