@@ -25,12 +25,12 @@ static size_t slot_count(void) { return file.length - file.tasks; }
 /* The jobs, each in both ways. A step goes on from the last state, so that a whole cycle is played. */
 static void read_archive(void) { sink = flute_read(file.bytes, file.length); }
 static void read_plain(void) { sink = plain_read(file.bytes, file.length, &set).number; }
-#ifndef READ_ONLY
-static uint8_t state[2][21], out[2][8];
 static void screen_archive(void) { sink = flute_screen(file.bytes, file.tasks); }
 static void screen_plain(void) { sink = plain_screen(file.bytes, file.tasks).number; }
 static void judge_archive(void) { sink = flute_judge(file.bytes, file.tasks, slots(), slot_count()); }
 static void judge_plain(void) { sink = plain_judge(file.bytes, file.tasks, slots(), slot_count()).number; }
+#ifndef NO_BUFFERS
+static uint8_t state[2][21], out[2][8];
 static void start_archive(void) { sink = flute_start(file.bytes, file.tasks, slots(), slot_count(), state[0], 21); }
 static void start_plain(void) { sink = plain_start(file.bytes, file.tasks, slots(), slot_count(), state[1], 21).number; }
 static void step_archive(void) { sink = flute_step(file.bytes, file.tasks, slots(), slot_count(), 0, state[0], 21, out[0], file.processors); }
@@ -65,9 +65,9 @@ static void measure_all(const char *name)
 {
     printf("%s (%u tasks, %u processors, cycle %u)\n", name, file.count, file.processors, file.cycle);
     measure("read", read_archive, read_plain);
-#ifndef READ_ONLY
     measure("screen", screen_archive, screen_plain);
     measure("judge", judge_archive, judge_plain);
+#ifndef NO_BUFFERS
     measure("start", start_archive, start_plain);
     start_archive();
     start_plain();

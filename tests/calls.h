@@ -22,13 +22,13 @@ static inline plain_answer call_read(const uint8_t *f, size_t n)
     return r
 
 static inline plain_answer call_read(const uint8_t *f, size_t n) { CALL(flute_read, f, n); }
-#ifndef READ_ONLY
 static inline plain_answer call_screen(const uint8_t *t, size_t n) { CALL(flute_screen, t, n); }
+static inline plain_answer call_judge(const uint8_t *t, size_t n, const uint8_t *p, size_t pn) { CALL(flute_judge, t, n, p, pn); }
+#ifndef NO_BUFFERS
 static inline plain_answer call_adjust(const uint8_t *t, size_t n, int32_t *r0, size_t rn, int32_t *d, size_t dn)
 {
     CALL(flute_adjust, t, n, r0, rn, d, dn);
 }
-static inline plain_answer call_judge(const uint8_t *t, size_t n, const uint8_t *p, size_t pn) { CALL(flute_judge, t, n, p, pn); }
 static inline plain_answer call_start(const uint8_t *t, size_t n, const uint8_t *p, size_t pn, uint8_t *s, size_t sn)
 {
     CALL(flute_start, t, n, p, pn, s, sn);

@@ -9,7 +9,7 @@ passed=0 failed=0
 
 command -v gcc >/dev/null || { apt-get update && apt-get install -y gcc libc6-dev; }
 rt staticlib flute || { echo '0 passed, 1 failed'; exit 1; }
-gcc -O2 -Wall -Wextra -DREAD_ONLY tests/vectors.c bench/plain.c target/staticlib/libflute.a -o "$out/vectors" || { echo '0 passed, 1 failed'; exit 1; }
+gcc -O2 -Wall -Wextra -DNO_BUFFERS tests/vectors.c bench/plain.c target/staticlib/libflute.a -o "$out/vectors" || { echo '0 passed, 1 failed'; exit 1; }
 gcc -O2 -Wall -Wextra -DPLAIN tests/vectors.c bench/plain.c -o "$out/vectors_plain" || { echo '0 passed, 1 failed'; exit 1; }
 
 # count NAME COMMAND..: run it and take its last line into the sum.
@@ -32,7 +32,9 @@ count() {
 for kind in reader judge screen adjusted step; do
     count "plain C, $kind" "$out/vectors_plain" $kind tests/vectors/$kind.txt
 done
-count 'archive, reader' "$out/vectors" reader tests/vectors/reader.txt
+for kind in reader judge screen; do
+    count "archive, $kind" "$out/vectors" $kind tests/vectors/$kind.txt
+done
 
 # Stored runs of the programs: tests/runs/PROGRAM/NAME.in is what it reads, NAME.out what it prints.
 for input in tests/runs/*/*.in; do

@@ -81,7 +81,6 @@ static int run_reader(char *p)
     return compare(call_read(file.bytes, file.length), p);
 }
 
-#ifndef READ_ONLY
 static int run_judge(char *p)
 {
     static bytes tasks, plan;
@@ -96,6 +95,7 @@ static int run_screen(char *p)
     return compare(call_screen(tasks.bytes, tasks.length), p);
 }
 
+#ifndef NO_BUFFERS
 static int run_adjusted(char *p)
 {
     static bytes tasks;
@@ -165,9 +165,9 @@ static int run_step(char *p)
 static const struct {
     const char *name;
     int (*run)(char *);
-} kinds[] = {{"reader", run_reader},
-#ifndef READ_ONLY
-           {"judge", run_judge}, {"screen", run_screen}, {"adjusted", run_adjusted}, {"step", run_step}
+} kinds[] = {{"reader", run_reader}, {"judge", run_judge}, {"screen", run_screen},
+#ifndef NO_BUFFERS
+           {"adjusted", run_adjusted}, {"step", run_step}
 #endif
 };
 

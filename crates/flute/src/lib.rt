@@ -1,7 +1,11 @@
-// The calls for C. A slice of bytes is a pointer and a length there; include/flute.h has the declarations.
+// The calls for C. A slice is a pointer and a length there; include/flute.h has the declarations, with what each call refuses and writes.
 ghost use mathlib.Core.Path.{_≡_};
 ghost use Prim.Native.Nat.{_%_};
-ghost use Rattle.flute.specs.Calls.{readNumber, readEvidence};
+ghost use Rattle.judge.specs.Answers as judgeAnswers;
+ghost use Rattle.screen.specs.Answers as screenAnswers;
+ghost use Rattle.flute.specs.Calls.{evidenceIn, readNumber, readEvidence, judged, screened};
+use judge::Verdict;
+use screen::Finding;
 
 // Evidence as C has it: in 32 bits.
 fn narrow(x: usize) -> u32
@@ -27,4 +31,56 @@ pub extern "C" fn flute_read_evidence(file: &[u8], which: u32) -> u32
     let outcome = loaded.outcome;
     let place = reader::evidence_of(outcome);
     narrow(evidence::one_of(which, place))
+}
+
+// The judge, on tasks as a file's head.
+fn judge_head(tasks: &[u8], plan: &[u8]) -> Verdict
+    ensures { λ r. ⌜ r ≡ judged (now (tasks .entry)) (now (plan .entry)) ⌝ }
+{
+    let taking = reader::take_head(tasks);
+    if taking.fits {
+        let set = taking.set;
+        return judge::judge(set, plan);
+    }
+    Verdict::BadSet
+}
+
+#[no_mangle]
+pub extern "C" fn flute_judge(tasks: &[u8], plan: &[u8]) -> u32
+    ensures { λ r. ⌜ r ≡ judgeAnswers.numberOf (judged (now (tasks .entry)) (now (plan .entry))) ⌝ }
+{
+    judge::number_of(judge_head(tasks, plan))
+}
+
+#[no_mangle]
+pub extern "C" fn flute_judge_evidence(tasks: &[u8], plan: &[u8], which: u32) -> u32
+    ensures { λ r. ⌜ r ≡ evidenceIn (judgeAnswers.evidenceOf (judged (now (tasks .entry)) (now (plan .entry)))) which ⌝ }
+{
+    narrow(judge::evidence_of(judge_head(tasks, plan), which))
+}
+
+// The screen, on tasks as a file's head.
+fn screen_head(tasks: &[u8]) -> Finding
+    ensures { λ r. ⌜ r ≡ screened (now (tasks .entry)) ⌝ }
+{
+    let taking = reader::take_head(tasks);
+    if taking.fits {
+        let set = taking.set;
+        return screen::screen(set);
+    }
+    Finding::BadSet
+}
+
+#[no_mangle]
+pub extern "C" fn flute_screen(tasks: &[u8]) -> u32
+    ensures { λ r. ⌜ r ≡ screenAnswers.findingNumber (screened (now (tasks .entry))) ⌝ }
+{
+    screen::number_of(screen_head(tasks))
+}
+
+#[no_mangle]
+pub extern "C" fn flute_screen_evidence(tasks: &[u8], which: u32) -> u32
+    ensures { λ r. ⌜ r ≡ evidenceIn (screenAnswers.findingEvidence (screened (now (tasks .entry)))) which ⌝ }
+{
+    narrow(screen::evidence_of(screen_head(tasks), which))
 }

@@ -1,19 +1,19 @@
 -- The lowest job that lies on a cycle, by rounds in place.
-use mathlib.Core.Path.{_≡_, refl, sym, ap, ap₂, _∙_}
+use mathlib.Core.Path.{_≡_, refl, sym, ap, _∙_}
 use mathlib.Core.Bool.{Bool, true, false, _&&_, _||_}
 use mathlib.Core.List.{List}
 use mathlib.Core.Logic.{_⊎_, inl, inr, ⊎-elim}
-use Prim.Native.Nat.{ℕ, zero, suc, _+_, _*_, _≤_, _<_, min, max}
+use Prim.Native.Nat.{ℕ, zero, suc, _≤_, _<_}
 use native.Mathlib.Omega.{arith}
 use lib.Dec.{eqb}
-use lib.ListN.{length, getD, set, take, length-set}
+use lib.ListN.{length, set, take, length-set}
 use lib.Seq.{getD-set-same, getD-set-other}
 use borrow.Author.Tests.{eqb-true, eq-eqb, ne-eqb}
-use Rattle.vocabulary.specs.Test.{bit, bit-le, bit-mono, clash, decide, eq-or-ne, same-test}
+use Rattle.vocabulary.specs.Test.{bit, bit-mono, clash, decide, eq-or-ne, same-test}
 use Rattle.vocabulary.specs.Prefix.{taken}
-use Rattle.vocabulary.specs.Least.{least, some, some-same, least-only}
+use Rattle.vocabulary.specs.Least.{some, some-same, least-only}
 use Rattle.graph.specs.Graph.{Graph, Inside, graphOf, reach, loops, lowest}
-use Rattle.graph.specs.Reach.{either, Free, Last, last-link, reach-by, reach-up, enough, free-by}
+use Rattle.graph.specs.Reach.{either, last-link, reach-by, reach-up, enough, free-by}
 use Rattle.graph.specs.Longest.{entry, rounds}
 use Rattle.graph.specs.Settle.{Over, entry-base, entry-link}
 use Rattle.graph.specs.Pass.{limit, at, Lined, Settled}

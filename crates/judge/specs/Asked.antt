@@ -17,7 +17,7 @@ use Rattle.judge.specs.Keys.{timesOf, Fit, Based}
 use Rattle.judge.specs.Starts.{Countable}
 use Rattle.judge.specs.Counts.{Tabled}
 
--- the edition is not looked at, so any will do under which the set is sound
+-- The edition is not looked at, so any will do under which the set is sound.
 pub record Asked (u : Tasks) (v : Patterns) (p : Plan) : Type 0 where
   pub edition : ℕ
   pub sound : Sound (record { edition = edition; processors = p .processors; tasks = u; patterns = v })

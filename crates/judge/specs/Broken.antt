@@ -51,7 +51,7 @@ kept-iff u p i k j l = (
   λ w. fails (λ e. broken-to u p i k j l e w),
 )
 
--- the first tick of the second job is not later than the last of the first
+-- A link is broken where the first tick of the second job is not later than the last of the first.
 pub broken-is : (u : Tasks) (p : Plan) (i k j l c a b c′ a′ b′ : ℕ) → Gets u p i k c a b → 0 < c → Gets u p j l c′ a′ b′ → 0 < c′ → leb a′ b ≡ broken u p i k j l
 broken-is u p i k j l c a b c′ a′ b′ g q g′ q′ =
     same-test

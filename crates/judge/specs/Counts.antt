@@ -16,15 +16,15 @@ use Rattle.judge.specs.Rules.{miscounts, miscounted}
 use Rattle.judge.specs.Gets.{Told}
 use Rattle.judge.specs.Keys.{Based}
 
--- the j-th entry from b on is not c
+-- The j-th entry from b on is not c.
 unfoldable pub differs : List ℕ → ℕ → ℕ → ℕ → Bool
 differs cs b c j = not (eqb (getD cs (b + j) 0) c)
 
--- a job of task i has an entry that is not the task's running time
+-- A job of task i has an entry that is not the task's running time.
 unfoldable pub differing : ℕ → List ℕ → List ℕ → List ℕ → List ℕ → ℕ → Bool
 differing h ts rs bs cs i = some (differs cs (getD bs i 0) (getD rs i 0)) (h / getD ts i 0)
 
--- what the searches ask
+-- What the searches ask.
 pub record Tabled (h n : ℕ) (ts bs : List ℕ) : Type 0 where
   pub few : n ≤ 64
   pub period : (i : ℕ) → i < n → 0 < getD ts i 0
@@ -42,7 +42,7 @@ module _ (h : ℕ) (ts rs bs cs : List ℕ) (i j k b : ℕ) (e : j ≡ least (di
   unfolding differing
   differing-no l = some-ge (differs cs (getD bs i 0) (getD rs i 0)) (h / getD ts i 0) j at (omega arith)
 
--- ---- the tables tell: the entries are what the jobs get
+-- ---- where the tables tell, the entries are what the jobs get
 module _ (u : Tasks) (p : Plan) (bs cs fs ls : List ℕ) (h : ℕ) (t : Told u p cs fs ls) (g : Based u bs) (e : h ≡ cycle u) where
   counted-at : (i k : ℕ) → i < u .count → k < jobsOf u i → getD cs (getD bs i 0 + k) 0 ≡ ticks u p i k
   unfolding numberOfJob
@@ -61,7 +61,7 @@ module _ (u : Tasks) (p : Plan) (bs cs fs ls : List ℕ) (h : ℕ) (t : Told u p
       least-same (differing h (u .periods) (u .runnings) bs cs) (miscounted u p) (u .count)
       (λ i l. ap₂ (λ (x y : ℕ). ltb x y) (miscounts-is i l) (ap (λ (x : ℕ). x / period u i) e))
 
--- no task is miscounted: every job gets its running time
+-- Where no task is miscounted every job gets its running time.
 pub all-counted : (u : Tasks) (p : Plan) → some (miscounted u p) (u .count) ≡ false → (i k : ℕ) → i < u .count → k < jobsOf u i → ticks u p i k ≡ running u i
 unfolding miscounted miscounts
 all-counted u p h i k li lk =

@@ -17,17 +17,18 @@ use Rattle.judge.specs.declared.Steps.{Steps}
 use Rattle.judge.specs.declared.Verdict.{Verdict}
 use Rattle.judge.specs.declared.Verdict.the-variants as verdict
 
--- ---- one pair: the n-th link's second job has its first tick, at place b + n * w, not later than its first job has its last, at a + n * v
+-- ---- one pair
+-- The n-th link's second job has its first tick, at place b + n * w, not later than its first job has its last, at place a + n * v.
 unfoldable pub crosses : List ℕ → List ℕ → ℕ → ℕ → ℕ → ℕ → ℕ → Bool
 crosses fs ls a b v w n = leb (getD fs (b + n * w) 0) (getD ls (a + n * v) 0)
 
--- the places lie in the tables
+-- The places lie in the tables.
 pub record Line (a b v w r : ℕ) : Type 0 where
   pub low-v : v ≤ 6000
   pub low-w : w ≤ 6000
   pub places : (n : ℕ) → n < r → (a + n * v < 2048) × (b + n * w < 2048)
 
--- the search has come to link n, at the places i and j
+-- The search has come to link n, at the places i and j.
 pub record Linking (fs ls : List ℕ) (a b v w r n i j : ℕ) : Type 0 where
   pub seen : Seeking (crosses fs ls a b v w) r n
   pub first : i ≡ a + n * v
@@ -55,23 +56,23 @@ module _ (fs ls : List ℕ) (a b v w r n i j : ℕ) (t : Linking fs ls a b v w r
       let p = f .places n l in
       (omega (arith, t .first, p .0), omega (arith, t .second, p .1), omega (arith, t .first, p .0, f .low-v), omega (arith, t .second, p .1, f .low-w))
 
--- ---- the pairs of one pattern, which steps by g; their numbers stand in xs and ys
--- the links of the pair at place x
+-- ---- the pairs of one pattern, which steps by g, with their numbers in xs and ys
+-- The links of the pair at place x.
 unfoldable pub linkAt : List ℕ → List ℕ → List ℕ → List ℕ → Steps → ℕ → ℕ → Bool
 linkAt xs ys fs ls g x n = crosses fs ls (g .from + getD xs x 0) (g .to + getD ys x 0) (g .first) (g .second) n
 
--- a link of the q-th pair from place s on is broken
+-- A link of the q-th pair from place s on is broken.
 unfoldable pub crossedPair : List ℕ → List ℕ → List ℕ → List ℕ → Steps → ℕ → ℕ → Bool
 crossedPair xs ys fs ls g s q = some (linkAt xs ys fs ls g (s + q)) (g .rounds)
 
--- n pairs from place s on have their places in the tables
+-- n pairs from place s on have their places in the tables.
 pub record Lines (xs ys : List ℕ) (g : Steps) (s n : ℕ) : Type 0 where
   pub room : s + n ≤ 1024
   pub low-from : g .from ≤ 2048
   pub low-to : g .to ≤ 2048
   pub each : (q : ℕ) → q < n → Line (g .from + getD xs (s + q) 0) (g .to + getD ys (s + q) 0) (g .first) (g .second) (g .rounds)
 
--- the same of one pair, at place x
+-- One pair, at place x, has its places there.
 pub record At (xs ys : List ℕ) (g : Steps) (x : ℕ) : Type 0 where
   pub room : x < 1024
   pub low-from : g .from ≤ 2048
@@ -81,7 +82,7 @@ pub record At (xs ys : List ℕ) (g : Steps) (x : ℕ) : Type 0 where
 pub lines-at : (xs ys : List ℕ) (g : Steps) (s n q : ℕ) → Lines xs ys g s n → q < n → At xs ys g (s + q)
 lines-at xs ys g s n q f l = record { room = omega (arith, f .room); low-from = f .low-from; low-to = f .low-to; line = f .each q l }
 
--- the same with the pair's two numbers as they were read
+-- The same with the pair's two numbers as they were read.
 pub at-line : (xs ys : List ℕ) (g : Steps) (x a b : ℕ) → At xs ys g x → a ≡ getD xs x 0 → b ≡ getD ys x 0 → Line (g .from + a) (g .to + b) (g .first) (g .second) (g .rounds)
 at-line xs ys g x a b f ea eb = rw (ea, eb) (f .line)
 
@@ -90,7 +91,7 @@ unfolding linkAt
 at-link xs ys fs ls g x a b n ea eb e = e ∙ rw (ea, eb)
 
 -- ---- all patterns
--- how the links of a pattern from task x to task y step, from the periods and the numbers of the first jobs
+-- How the links of a pattern from task x to task y step, from the periods and the numbers of the first jobs.
 unfoldable pub stepsOf : ℕ → List ℕ → List ℕ → ℕ → ℕ → Steps
 stepsOf h ts bs x y =
     let p : ℕ = multipleOf (getD ts x 0) (getD ts y 0) in
@@ -100,15 +101,15 @@ pub steps-is : (h : ℕ) (ts bs : List ℕ) (x y : ℕ) {p a b v w r : ℕ} → 
 unfolding stepsOf
 steps-is h ts bs x y ep ea eb ev ew er = rw (ea, eb, ev, ew, er, ep)
 
--- pattern k's steps
+-- Pattern k's steps.
 abbrev pub steps : ℕ → List ℕ → List ℕ → Patterns → ℕ → Steps
 steps h ts bs v k = stepsOf h ts bs (fromTask v k) (toTask v k)
 
--- a pair of pattern k is broken
+-- A pair of pattern k is broken.
 unfoldable pub crossed : ℕ → List ℕ → List ℕ → Patterns → List ℕ → List ℕ → ℕ → Bool
 crossed h ts bs v fs ls k = some (crossedPair (v .firsts) (v .seconds) fs ls (steps h ts bs v k) (pairsBefore v k)) (pairCount v k)
 
--- the lowest pattern, its lowest pair, its lowest link
+-- The lowest pattern, its lowest pair, its lowest link.
 unfoldable pub crossedAt : ℕ → List ℕ → List ℕ → Patterns → List ℕ → List ℕ → Verdict
 crossedAt h ts bs v fs ls =
     let k : ℕ = least (crossed h ts bs v fs ls) (v .count) in
@@ -119,7 +120,7 @@ crossedAt h ts bs v fs ls =
 unfoldable pub crossings : ℕ → List ℕ → List ℕ → Patterns → List ℕ → List ℕ → Verdict
 crossings h ts bs v fs ls = pick (some (crossed h ts bs v fs ls) (v .count)) (crossedAt h ts bs v fs ls) verdict.Accepted
 
--- what the search asks
+-- What the search asks.
 pub record Linkable (h : ℕ) (ts bs : List ℕ) (v : Patterns) : Type 0 where
   pub few : v .count ≤ 64
   pub tasks : (k : ℕ) → k < v .count → (fromTask v k < 64) × (toTask v k < 64)
@@ -127,7 +128,7 @@ pub record Linkable (h : ℕ) (ts bs : List ℕ) (v : Patterns) : Type 0 where
   pub lines : (k : ℕ) → k < v .count → Lines (v .firsts) (v .seconds) (steps h ts bs v k) (pairsBefore v k) (pairCount v k)
   pub rounds : h ≤ 6000
 
--- it has come to pattern k, whose pairs begin at place s
+-- It has come to pattern k, whose pairs begin at place s.
 pub record Crossing (h : ℕ) (ts bs : List ℕ) (v : Patterns) (fs ls : List ℕ) (k s : ℕ) : Type 0 where
   pub seen : Seeking (crossed h ts bs v fs ls) (v .count) k
   pub start : s ≡ pairsBefore v k
@@ -147,7 +148,7 @@ module _ (h : ℕ) (ts bs : List ℕ) (v : Patterns) (fs ls : List ℕ) (k s x y
     pub cross-lines : Linkable h ts bs v → Lines (v .firsts) (v .seconds) g s n
     cross-lines f = rw (is-steps, w .start, en) (f .lines k l)
 
-    -- a link's number is no larger than the cycle
+    -- A link's number is no larger than the cycle.
     pub cross-low : Linkable h ts bs v → (r : ℕ) (F : ℕ → Bool) → r ≡ least F (g .rounds) → r ≤ 6000
     unfolding stepsOf
     cross-low f r F e =

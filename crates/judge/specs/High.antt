@@ -12,7 +12,7 @@ use Rattle.vocabulary.specs.Test.{lt-or-le}
 use Rattle.vocabulary.specs.Least.{least, some, some-not, least-only}
 use Rattle.judge.specs.Rules.{high}
 
--- no slot below e is above r
+-- No slot below e is above r.
 pub record Topped (slots : List ℕ) (e r : ℕ) : Type 0 where
   pub within : e ≤ length slots
   pub each : (k : ℕ) → k < e → getD slots k 0 ≤ r
@@ -49,7 +49,7 @@ beyond [] i l = refl
 beyond (x ∷ xs) zero l = absurd (omega arith)
 beyond (x ∷ xs) (suc i) l = beyond xs i (omega arith)
 
--- no slot is high: each is at most n, and beyond the plan's end they read 0
+-- Where no slot is high each is at most n; beyond the plan's end they read 0.
 pub all-low : (slots : List ℕ) (n : ℕ) → some (high slots n) (length slots) ≡ false → (e : ℕ) → getD slots e 0 ≤ n
 unfolding high
 all-low slots n h e =

@@ -15,7 +15,7 @@ use Rattle.kinds.specs.Valid.{TickOf}
 use Rattle.laws.specs.Window.{timeOf}
 use Rattle.judge.specs.Rules.{strays}
 
--- of the tasks the slots need no running times
+-- Of the tasks the slots need no running times.
 abbrev pub timesOf : ℕ → List ℕ → List ℕ → List ℕ → Tasks
 timesOf n t o d = tasksOf n t [] o d
 
@@ -35,21 +35,21 @@ pub record Fit (u : Tasks) (p : Plan) : Type 0 where
   pub long : length (p .slots) ≡ p .cycle * p .processors
   pub low-slots : (e : ℕ) → getD (p .slots) e 0 ≤ u .count
 
--- a table has the number of each task's first job
+-- A table has the number of each task's first job.
 pub record Based (u : Tasks) (bs : List ℕ) : Type 0 where
   pub each : (i : ℕ) → i < u .count → getD bs i 0 ≡ jobsBefore u i
 
 -- ---- keys and times
--- the number of the job in whose window slot tick c lies, from T, O, D and the number b of the task's first job; 2048, a number that no job has, for none
+-- The number of the job in whose window slot tick c lies, from T, O, D and the number b of the task's first job; for none 2048, which no job has.
 unfoldable pub jobKey : ℕ → ℕ → ℕ → ℕ → ℕ → ℕ → ℕ
 jobKey h t o d b c = let r : ℕ = timeOf h o c - o in pick (ltb (r % t) d) (b + r / t) 2048
 
--- the same from a slot's value, 2049 for an idle slot
+-- The same from a slot's value; 2049 for an idle slot.
 unfoldable pub keyOf : Tasks → Plan → ℕ → ℕ → ℕ
 keyOf u p zero c = 2049
 keyOf u p (suc i) c = jobKey (p .cycle) (period u i) (offset u i) (deadline u i) (jobsBefore u i) c
 
--- the slot at place e stands in tick e / m, on processor e % m
+-- The slot at place e stands in tick e / m, on processor e % m: its key, its time, and rule 21.
 unfoldable pub key : Tasks → Plan → ℕ → ℕ
 key u p e = keyOf u p (getD (p .slots) e 0) (e / p .processors)
 
@@ -59,24 +59,24 @@ time u p e = timeOf (p .cycle) (offset u (getD (p .slots) e 0 - 1)) (e / p .proc
 unfoldable pub outside : Tasks → Plan → ℕ → Bool
 outside u p e = strays u p (e / p .processors) (e % p .processors)
 
--- what is known of a time that is noted under number x
+-- What is known of a time that is noted under number x: it is a tick of the job that has this number.
 unfoldable pub Fine : Tasks → Plan → ℕ → ℕ → Type 0
 Fine u p x t = (i k : ℕ) → i < u .count → k < jobsOf u i → x ≡ numberOfJob u i k → TickOf u p i k t
 
--- and of the time that stands there before any is
+-- Before any is noted the job's release stands there.
 unfoldable pub Released : Tasks → ℕ → ℕ → Type 0
 Released u x t = (i k : ℕ) → i < u .count → k < jobsOf u i → x ≡ numberOfJob u i k → t ≡ release u i k
 
 -- ---- the walk
--- the tables before it
+-- The tables before it.
 pub record Ready (u : Tasks) (cs fs ls : List ℕ) : Type 0 where
   pub fresh : Fresh (Released u) 2048 cs fs ls
 
--- every slot below e is noted
+-- Every slot below e is noted.
 pub record Walked (u : Tasks) (p : Plan) (e : ℕ) (cs fs ls : List ℕ) : Type 0 where
   pub noted : Tally (key u p) (time u p) (Fine u p) (Released u) 2048 e cs fs ls
 
--- the slot at e is looked at: r where it lies outside its task's windows
+-- The slot at e is looked at, and r says whether it lies outside its task's windows.
 pub record Visited (u : Tasks) (p : Plan) (e : ℕ) (r : Bool) (cs fs ls : List ℕ) : Type 0 where
   pub out : outside u p e ≡ r
   pub next : r ≡ false → Walked u p (e + 1) cs fs ls

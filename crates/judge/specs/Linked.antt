@@ -29,7 +29,7 @@ use Rattle.judge.specs.Broken.{broken-is}
 use Rattle.judge.specs.Crossed.{crosses, Line, linkAt, crossedPair, stepsOf, steps, crossed, crossedAt, crossings, Linkable}
 use Rattle.judge.specs.Asked.{Asked}
 
--- rule 23, else accepted
+-- Rule 23, else accepted.
 unfoldable pub linksVerdict : Tasks → Patterns → Plan → Verdict
 linksVerdict u v p = pick (some (brokenPattern u v p) (v .count)) (brokenAt u v p) verdict.Accepted
 
@@ -65,7 +65,7 @@ module _ (u : Tasks) (v : Patterns) (p : Plan) (bs : List ℕ) (a : Asked u v p)
   steps-are k l =
       rw (common-is k l, g .each (fromTask v k) (a .sound .from-low k l), g .each (toTask v k) (a .sound .to-low k l), a .ticks)
 
-  -- a link's jobs have numbers
+  -- A link's jobs have numbers within the tables.
   numbers : (k q n : ℕ) → k < v .count → q < pairCount v k → n < repeats u v k → (numberOfJob u (fromTask v k) (linkFrom u v k q n) < 2048) × (numberOfJob u (toTask v k) (linkTo u v k q n) < 2048)
   unfolding set
   numbers k q n lk lq ln =

@@ -17,17 +17,17 @@ use Rattle.vocabulary.specs.Bits.{has, has-none, set-word}
 use Rattle.kinds.specs.Plans.{Plan, plan, slot, shows}
 use Rattle.judge.specs.Rules.{twin, mated, clashes}
 
--- a plan whose slots' tasks fit a word
+-- A plan whose slots' tasks fit a word.
 pub record Worded (slots : List ℕ) (m h : ℕ) : Type 0 where
   pub long : length slots ≡ h * m
   pub few : (e : ℕ) → getD slots e 0 ≤ 64
   pub short : h * m ≤ 48000
 
--- slot value v is marked in x
+-- Slot value v is marked in x.
 unfoldable pub marked : ℕ → ℕ → Bool
 marked x v = not (eqb v 0) && has x (v - 1)
 
--- r is x with slot value v marked
+-- r is x with slot value v marked.
 pub record Added (x v r : ℕ) : Type 0 where
   pub idle : v ≡ 0 → r ≡ x
   pub task : (v ≡ 0 → ⊥) → r ≡ bitOr x (1 * 2 ^ (v - 1) % 2 ^ 64)
@@ -43,14 +43,15 @@ row-room slots m h c q a w l k e = omega (arith, w .long, digits-lt l k)
 pub row-next : (slots : List ℕ) (m h c a : ℕ) → Worded slots m h → c < h → a ≡ c * m → a + m ≤ 48000
 row-next slots m h c a w l e = omega (arith, w .short, mul-le-mul {n₁ = c + 1} {m₁ = m} {n₂ = h} {m₂ = m} (omega arith) (le-refl m))
 
--- ---- x has the marks of the tasks that the first q processors show at time t
+-- ---- marks
+-- x has the marks of the tasks that the first q processors show at time t.
 pub record Marks (p : Plan) (t q x : ℕ) : Type 0 where
   pub each : (i : ℕ) → i < 64 → has x i ≡ some (shows p i t) q
 
 marks-from : (p : Plan) (t : ℕ) → Marks p t 0 0
 marks-from p t = record { each = λ i l. has-none i ∙ sym (some-none (shows p i t)) }
 
--- an idle processor
+-- An idle processor adds none.
 marks-idle : (p : Plan) (t q x x′ : ℕ) → Marks p t q x → slot p t q ≡ 0 → x′ ≡ x → Marks p t (q + 1) x′
 unfolding shows
 marks-idle p t q x x′ m e r =
@@ -68,7 +69,7 @@ marks-idle p t q x x′ m e r =
     or-false true = refl
     or-false false = refl
 
--- one that shows task v - 1
+-- A processor that shows task v - 1 adds this one.
 marks-task : (p : Plan) (t q x v x′ : ℕ) → Marks p t q x → v ≡ slot p t q → (v ≡ 0 → ⊥) → v ≤ 64 → x′ ≡ bitOr x (1 * 2 ^ (v - 1) % 2 ^ 64) → Marks p t (q + 1) x′
 unfolding shows
 marks-task p t q x v x′ m e z l r =
@@ -83,7 +84,8 @@ marks-task p t q x v x′ m e z l r =
         go (inl g) = eq-eqb i (v - 1) g ∙ sym (eq-eqb (slot p t q) (i + 1) (omega arith))
         go (inr g) = ne-eqb i (v - 1) g ∙ sym (ne-eqb (slot p t q) (i + 1) (λ k. g (omega arith)))
 
--- ---- the first q processors of tick c are seen, and no two of them show one task
+-- ---- rows
+-- The first q processors of tick c are seen, and no two of them show one task.
 pub record Rowing (p : Plan) (c q x : ℕ) : Type 0 where
   pub within : q ≤ p .processors
   pub marks : Marks p c q x
@@ -93,7 +95,7 @@ pub row-from : (p : Plan) (c : ℕ) → Rowing p c 0 0
 row-from p c = record { within = omega arith; marks = marks-from p c; clean = λ a b l k. absurd (omega arith) }
 
 module _ (p : Plan) (c q x v : ℕ) (w : Rowing p c q x) (l : q < p .processors) (ev : v ≡ slot p c q) (few : v ≤ 64) where
-  -- the mark of v tells whether a processor below q shows it
+  -- The mark of v tells whether a processor below q shows it.
   seen : (v ≡ 0 → ⊥) → marked x v ≡ some (shows p (v - 1) c) q
   unfolding marked
   seen z = rw (ne-eqb v 0 z) (w .marks .each (v - 1) (omega (arith, z)))

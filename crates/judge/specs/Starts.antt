@@ -14,13 +14,14 @@ use Rattle.kinds.specs.Cycle.{cycle, jobsOf, jobsBefore, jobs}
 use Rattle.kinds.specs.Jobs.{release, numberOfJob}
 use Rattle.judge.specs.Keys.{Based, Released, Ready}
 
--- ---- one task's jobs: k entries of the table xs from b on become o, o + t, .., and those before b stay
+-- ---- one task's jobs
+-- k entries of the table xs from b on become o, o + t and so on, and those before b stay.
 pub record Stepped (xs ys : List ℕ) (b k o t : ℕ) : Type 0 where
   pub long : length ys ≡ length xs
   pub below : (x : ℕ) → x < b → getD ys x 0 ≡ getD xs x 0
   pub each : (j : ℕ) → j < k → getD ys (b + j) 0 ≡ o + j * t
 
--- a loop that writes them has come to j, with x to be written next
+-- A loop that writes them has come to j, with x to be written next.
 pub record Stepping (xs ys : List ℕ) (b k o t j x : ℕ) : Type 0 where
   pub within : j ≤ k
   pub next : x ≡ o + j * t
@@ -53,13 +54,13 @@ pub step-end : (xs ys : List ℕ) (b k o t j x : ℕ) → Stepping xs ys b k o t
 step-end xs ys b k o t j x w l =
     record { long = w .done .long; below = w .done .below; each = λ i h. w .done .each i (omega arith) }
 
--- the sums fit
+-- The sums fit.
 pub step-room : (xs ys : List ℕ) (b k o t j x : ℕ) → Stepping xs ys b k o t j x → j < k → o + k * t ≤ 12000 → x + t ≤ 12000
 step-room xs ys b k o t j x w l h =
     omega (arith, w .next, mul-le-mul {n₁ = j + 1} {m₁ = t} {n₂ = k} {m₂ = t} (omega arith) (le-refl t))
 
 -- ---- all tasks, from their tables of periods and first releases
--- what the loop asks: periods that are none 0, and as many jobs as a table holds
+-- What the loop asks: no period is 0, and a table holds the jobs.
 pub record Countable (ts os : List ℕ) (h n : ℕ) : Type 0 where
   pub few : n ≤ 64
   pub low : h ≤ 6000
@@ -67,7 +68,7 @@ pub record Countable (ts os : List ℕ) (h n : ℕ) : Type 0 where
   pub room : (i : ℕ) → i < n → getD os i 0 + h / getD ts i 0 * getD ts i 0 ≤ 12000
   pub jobs : total (λ i. h / getD ts i 0) n ≤ 2048
 
--- the tables are filled for the first i tasks; a is the number of the next task's first job
+-- The tables are filled for the first i tasks, and a is the number of the next task's first job.
 pub record Opened (ts os : List ℕ) (h i a : ℕ) (bs ss : List ℕ) : Type 0 where
   pub sum : a ≡ total (λ j. h / getD ts j 0) i
   pub long-b : length bs ≡ 64

@@ -18,18 +18,18 @@ use Rattle.judge.specs.Told.{place, told, tick-low}
 use Rattle.judge.specs.Visit.{Walking, walk-from, walk-tick, walk-low, walk-along, walk-down, none-outside}
 use Rattle.judge.specs.Row.{Rowing, row-from, row-hit, row-on, row-end, marked, Added}
 
--- rules 20 and 21 are kept, and the tables tell
+-- Rules 20 and 21 are kept, and the tables tell.
 pub record Clean (u : Tasks) (p : Plan) (cs fs ls : List ℕ) : Type 0 where
   pub once : (c : ℕ) → c < p .cycle → clashes p c ≡ false
   pub inside : (c : ℕ) → c < p .cycle → strayed u p c ≡ false
   pub told : Told u p cs fs ls
 
--- r where both are kept
+-- The answer r says whether both are kept; which is broken is asked elsewhere.
 pub record Swept (u : Tasks) (p : Plan) (r : Bool) (cs fs ls : List ℕ) : Type 0 where
   pub good : r ≡ true → Clean u p cs fs ls
   pub bad : r ≡ false → (some (clashes p) (p .cycle) ≡ true) ⊎ (some (strayed u p) (p .cycle) ≡ true)
 
--- the walk has come to slot e, processor q of tick c, with the tasks of the row so far marked in x
+-- The walk has come to slot e, processor q of tick c, with the tasks of the row so far marked in x.
 pub record Sweeping (u : Tasks) (p : Plan) (e q c x : ℕ) (cs fs ls : List ℕ) : Type 0 where
   pub walking : Walking u p e q c cs fs ls
   pub row : Rowing p c q x

@@ -34,13 +34,13 @@ module _ (u : Tasks) (p : Plan) (f : Fit u p) where
   unfolding jobsOf
   jobs-are i = ap (λ (h : ℕ). h / period u i) (sym (f .ticks))
 
-  -- the job in force is a job of the cycle
+  -- The job in force is a job of the cycle.
   job-low : (i c : ℕ) → i < u .count → c < p .cycle → (timeOf (p .cycle) (offset u i) c - offset u i) / period u i < jobsOf u i
   job-low i c l k =
       let w = time-from (p .cycle) (offset u i) c (offset-within i l) k in
       rw (jobs-are i) (div-lt-iff-lt-mul (f .some-period i l) .1 (rw (div-mul-cancel (period u i) (f .divides i l)) (omega (arith, w .0, w .1))))
 
-  -- a job's number tells its task, and is in the tables
+  -- A job's number tells its task, and is in the tables.
   one-task : (i j k l : ℕ) → i < u .count → j < u .count → k < jobsOf u i → l < jobsOf u j → jobsBefore u i + k ≡ jobsBefore u j + l → i ≡ j
   unfolding numberOfJob
   one-task i j k l li lj lk ll e = sym (task-of-number u i k li lk) ∙ ap (taskOfJob u) e ∙ task-of-number u j l lj ll
@@ -80,7 +80,7 @@ module _ (u : Tasks) (p : Plan) (f : Fit u p) where
       ap (λ (x : ℕ). keyOf u p x c) (let g : v ≡ suc i = omega arith in g)
       ∙ rw (z .1) (ap (λ (x : ℕ). jobsBefore u i + x) (eqb-true _ _ (z .0)))
 
-  -- a slot by its place
+  -- A slot by its place.
   pub place : (c q : ℕ) → c < p .cycle → slot p c q ≡ getD (p .slots) (c * p .processors + q) 0
   unfolding slot
   place c q l = rw (mod-eq-of-lt l)
@@ -130,11 +130,11 @@ module _ (u : Tasks) (p : Plan) (f : Fit u p) where
         (λ q l. by-row i k c (0 + q) li lk lc (omega arith) ∙ ap (λ (b : Bool). shows p i c (0 + q) && b) e ∙ and-false (shows p i c (0 + q)))
         ∙ ap bit (sym (and-false (some (shows p i c) (p .processors))))
 
-    -- the job's last tick lies in the cycle that begins at the first release
+    -- A job's period lies in the cycle that begins at the first release.
     room : (i k : ℕ) → i < u .count → k < jobsOf u i → k * period u i + period u i ≤ p .cycle
     room i k li lk = omega (arith, le-div-iff-mul-le {x = k + 1} {y = p .cycle} (f .some-period i li) .0 (omega (arith, jobs-are i)))
 
-    -- slots by job are ticks of the job's window
+    -- Counting slots by job is counting the ticks of the job's window.
     number : (i k : ℕ) → i < u .count → k < jobsOf u i → count (λ e. eqb (key u p e) (jobsBefore u i + k)) 0 (p .cycle * p .processors) ≡ ticks u p i k
     unfolding within ticks release
     number i k li lk =
@@ -145,7 +145,7 @@ module _ (u : Tasks) (p : Plan) (f : Fit u p) where
         ∙ count-same (shown p i) (runs u p i) (offset u i + k * period u i) (offset u i + k * period u i) (deadline u i)
         (λ x l. sym (runs-awake u p i (offset u i + k * period u i + x) (omega arith)))
 
-  -- a noted slot is a tick of its job
+  -- A noted slot is a tick of its job.
   pub fine : (e : ℕ) → e < p .cycle * p .processors → Fine u p (key u p e) (time u p e)
   unfolding Fine key time shown shows slot within numberOfJob release
   fine e le i k li lk q =
@@ -164,7 +164,7 @@ module _ (u : Tasks) (p : Plan) (f : Fit u p) where
       (rw (mod-eq-of-lt lc, div-add-mod' e (p .processors)) (eq-eqb v (i + 1) (w .0)))) in
       subst (λ (y : ℕ). TickOf u p i k (timeOf (p .cycle) (offset u y) c)) (sym n) r
 
-  -- a tick of a job is a slot with its number and time
+  -- A tick of a job is a slot with its number and time.
   module _ (i k x : ℕ) (li : i < u .count) (lk : k < jobsOf u i) (t : TickOf u p i k x) where
     w : (offset u i + k * period u i ≤ x) × (x < offset u i + k * period u i + deadline u i) × (shown p i x ≡ true)
     unfolding release
@@ -222,14 +222,14 @@ module _ (u : Tasks) (p : Plan) (f : Fit u p) where
             };
       }
 
-  -- ---- for code
+  -- ---- what the code finds
   pub key-task : (v c : ℕ) → (v ≡ 0 → ⊥) → jobKey (p .cycle) (period u (v - 1)) (offset u (v - 1)) (deadline u (v - 1)) (jobsBefore u (v - 1)) c ≡ keyOf u p v c
   unfolding keyOf
   key-task zero c z = absurd (z refl)
   key-task (suc i) c z =
       ap (λ (x : ℕ). jobKey (p .cycle) (period u x) (offset u x) (deadline u x) (jobsBefore u x) c) (let g : suc i - 1 ≡ i = omega arith in g)
 
-  -- the definition of rule 21 adds a cycle to every tick, the code only where the task sleeps
+  -- The definition of rule 21 adds a cycle to every tick, the code only where the task sleeps.
   since : (i c : ℕ) → i < u .count → c < p .cycle → (c + p .cycle - offset u i) % period u i ≡ (timeOf (p .cycle) (offset u i) c - offset u i) % period u i
   since i c li lc = go (lt-or-le c (offset u i))
     where
@@ -240,7 +240,7 @@ module _ (u : Tasks) (p : Plan) (f : Fit u p) where
           (ap (λ (x : ℕ). x % period u i) (let g : c + p .cycle - offset u i ≡ c - offset u i + p .cycle / period u i * period u i = omega (arith, div-mul-cancel (period u i) (f .divides i li)) in g)
           ∙ add-mul-mod-self-right (c - offset u i) (p .cycle / period u i) (period u i))
 
-  -- the number that the code finds, and rule 21
+  -- The number that the code finds tells whether rule 21 is broken.
   judged : (i c : ℕ) → i < u .count → c < p .cycle → (b : Bool) → ltb ((timeOf (p .cycle) (offset u i) c - offset u i) % period u i) (deadline u i) ≡ b → (k : ℕ) → k ≡ pick b (jobsBefore u i + (timeOf (p .cycle) (offset u i) c - offset u i) / period u i) 2048 → leb (deadline u i) ((c + p .cycle - offset u i) % period u i) ≡ leb 2048 k
   judged i c li lc true e k q =
       lt-leb (deadline u i) _ (rw (since i c li lc) (ltb-true _ _ e))

@@ -75,7 +75,8 @@ pub walk-room : (u : Tasks) (p : Plan) → Fit u p → (e : ℕ) (cs fs ls : Lis
 walk-room u p f e cs fs ls w l k lk =
     omega (arith, few-slots u p f, tally-room (key u p) (time u p) (Fine u p) (Released u) 2048 e cs fs ls (w .noted) k lk)
 
--- ---- the walk has come to slot e, processor q of tick c
+-- ---- the walk
+-- It has come to slot e, processor q of tick c.
 pub record Walking (u : Tasks) (p : Plan) (e q c : ℕ) (cs fs ls : List ℕ) : Type 0 where
   pub seen : Seeking (outside u p) (p .cycle * p .processors) e
   pub walked : Walked u p e cs fs ls
@@ -106,7 +107,7 @@ module _ (u : Tasks) (p : Plan) (e q c : ℕ) (cs fs ls cs′ fs′ ls′ : List
   walk-down z =
       record { seen = on _ _ e (w .seen) l (v .out ∙ er); walked = v .next er; place = omega (arith, w .place); proc = omega (arith, w .proc) }
 
--- no slot outside is no tick with one
+-- Where no slot lies outside, no tick has one that does.
 pub none-outside : (u : Tasks) (p : Plan) → ((e : ℕ) → e < p .cycle * p .processors → outside u p e ≡ false) → (c : ℕ) → c < p .cycle → strayed u p c ≡ false
 unfolding strayed outside
 none-outside u p h c lc =

@@ -31,18 +31,18 @@ use Rattle.judge.specs.Asked.{Asked, fit-asked, times, told-times, table
 use Rattle.judge.specs.Linked.{linksVerdict, crossings-are}
 use Rattle.judge.specs.Crossed.{crossings}
 
--- 22 and what is behind it
+-- Rule 22 and what is behind it.
 unfoldable pub countsVerdict : Tasks → Patterns → Plan → Verdict
 countsVerdict u v p = pick (some (miscounted u p) (u .count)) (wrongAt u p) (linksVerdict u v p)
 
--- 20 and what is behind it
+-- Rules 20 and 21 and what is behind them.
 unfoldable pub rowsVerdict : Tasks → Patterns → Plan → Verdict
 rowsVerdict u v p =
     pick (some (clashes p) (p .cycle)) (twiceAt p)
     (pick (some (strayed u p) (p .cycle)) (outsideAt u p)
     (countsVerdict u v p))
 
--- 12 and what is behind it
+-- Rule 12 and what is behind it.
 unfoldable pub slotsVerdict : Tasks → Patterns → Plan → Verdict
 slotsVerdict u v p =
     pick (some (high (p .slots) (u .count)) (length (p .slots))) (verdict.BadSlot (least (high (p .slots) (u .count)) (length (p .slots))))
@@ -63,7 +63,7 @@ module _ (s : Set) (slots : List ℕ) where
     unfolding verdictOf slotsVerdict rowsVerdict countsVerdict linksVerdict highAt
     right-length h = rw (e, eq-eqb (length slots) (s .processors * cycle (s .tasks)) h)
 
--- the cycle that the code finds of a sound set
+-- The code finds the cycle of a sound set.
 pub cycle-found : (s : Set) → Sound s → cycleOf (s .tasks .periods) (s .tasks .count) .ticks ≡ cycle (s .tasks)
 unfolding cycle jobs jobsBefore jobsOf
 cycle-found s f =
@@ -72,7 +72,7 @@ cycle-found s f =
     let fit : all (λ i. holds periods (getD ps i 0)) n ≡ true = all-from (λ i. holds periods (getD ps i 0)) n (λ i l. holds-yes 1 6001 (getD ps i 0) (f .some-period i l) (omega (arith, f .low-period i l))) in
     ap (λ c. c .ticks) (sym (cycle-some ps n {h = cycle (onlyPeriods ps n)} {j = jobs (onlyPeriods ps n)} (f .few-tasks) fit refl (f .low-cycle) refl (f .few-jobs)))
 
--- with the numbers that the code has: m processors, h ticks a cycle, and x the same
+-- The same with the numbers that the code has: m processors, h ticks a cycle, and x the same as h.
 module _ (s : Set) (slots : List ℕ) (m h x : ℕ) (e : sound s ≡ true) (em : m ≡ s .processors) (eh : h ≡ cycleOf (s .tasks .periods) (s .tasks .count) .ticks) (ex : x ≡ h) where
   f : Sound s
   f = sound-facts s e
@@ -80,7 +80,7 @@ module _ (s : Set) (slots : List ℕ) (m h x : ℕ) (e : sound s ≡ true) (em :
   is-cycle : h ≡ cycle (s .tasks)
   is-cycle = eh ∙ cycle-found s f
 
-  -- the product fits
+  -- The product fits.
   pub few-places : m * x ≤ 48000
   few-places = mul-le-mul {n₁ = m} {m₁ = x} {n₂ = 8} {m₂ = 6000} (omega (arith, em, f .few-processors)) (omega (arith, is-cycle, ex, f .low-cycle))
 
@@ -119,7 +119,7 @@ module _ (u : Tasks) (v : Patterns) (p : Plan) (e : ℕ) (q : e ≡ least (high 
   fit-slots a l = fit-asked u v p a (all-low (p .slots) (u .count) (none-high l))
 
 -- ---- 20 and 21, where one of the two is broken
--- the two lowest processors of tick c that show one task
+-- The two lowest processors of tick c that show one task.
 unfoldable pub twiceIn : Plan → ℕ → Verdict
 twiceIn p c = let q : ℕ = least (mated p c) (p .processors) in verdict.Twice c q (least (twin p c q) (p .processors))
 
@@ -127,7 +127,7 @@ pub twice-in : (p : Plan) (c q r : ℕ) → q ≡ least (mated p c) (p .processo
 unfolding twiceIn
 twice-in p c q r eq er = rw (← eq, ← er)
 
--- evidence is in range
+-- Evidence is in range.
 pub mated-low : (p : Plan) (c q : ℕ) → clashes p c ≡ true → q ≡ least (mated p c) (p .processors) → q < p .processors
 unfolding clashes
 mated-low p c q h e = omega (arith, some-at (mated p c) (p .processors) h .0)
@@ -142,7 +142,7 @@ pub outside-found : (u : Tasks) (p : Plan) (c q : ℕ) → c ≡ least (strayed 
 unfolding outsideAt
 outside-found u p c q ec eq = rw (← ec, ← eq)
 
--- what the searches for evidence answer
+-- What the searches for evidence answer.
 unfoldable pub misplacedVerdict : Tasks → Plan → Verdict
 misplacedVerdict u p = pick (some (clashes p) (p .cycle)) (twiceAt p) (outsideAt u p)
 
@@ -169,13 +169,13 @@ swept-bad u v p cs fs ls r w er = go (some (clashes p) (p .cycle)) refl (w .bad 
     go false e (inr h) = rw h
 
 -- ---- 22
--- what the lowest wrong job of task i gets, by its entry
+-- What the lowest wrong job of task i gets, by its entry.
 unfoldable pub wrongEntry : ℕ → List ℕ → List ℕ → List ℕ → List ℕ → ℕ → Verdict
 wrongEntry h ts rs bs cs i =
     let k : ℕ = least (differs cs (getD bs i 0) (getD rs i 0)) (h / getD ts i 0) in
     verdict.WrongCount i k (getD cs (getD bs i 0 + k) 0)
 
--- what the search for it asks
+-- What the search for it asks.
 pub record Differing (h : ℕ) (ts rs bs cs : List ℕ) (i : ℕ) : Type 0 where
   pub few : i < 64
   pub low : h ≤ 6000

@@ -24,7 +24,7 @@ fn wrong_job(counts: &[u32; 2048], b: usize, k: usize, c: u32) -> usize
 }
 
 // The lowest task with a job whose count is not its running time, or n.
-pub fn wrong_task(
+pub(crate) fn wrong_task(
     h: u32,
     n: usize,
     period: &[u32; 64],
@@ -47,7 +47,7 @@ pub fn wrong_task(
 }
 
 // The lowest wrong job of task i, and the ticks that it gets.
-pub fn wrong_count(
+pub(crate) fn wrong_count(
     h: u32,
     i: usize,
     period: &[u32; 64],

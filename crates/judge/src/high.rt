@@ -44,7 +44,7 @@ fn seek_high(slots: &[u8], n: usize) -> usize
 }
 
 // The lowest slot above n, or the plan's length. A bound of all slots is found faster than the first that is too high, and few plans have one.
-pub fn first_high(slots: &[u8], n: usize) -> usize
+pub(crate) fn first_high(slots: &[u8], n: usize) -> usize
     ensures { λ r. ⌜ r ≡ least (high (now (slots .entry)) n) (length (now (slots .entry))) ⌝ }
 {
     if wide(highest(slots)) <= n {

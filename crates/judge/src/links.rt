@@ -96,7 +96,7 @@ fn broken_pair(
 }
 
 // The lowest broken link of the patterns, or accepted.
-pub fn judge_links(
+pub(crate) fn judge_links(
     h: u32,
     period: &[u32; 64],
     base: &[u32; 64],

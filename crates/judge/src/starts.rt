@@ -6,7 +6,7 @@ ghost use Rattle.judge.specs.Starts.{Stepped, Countable, Opened};
 use crate::index;
 
 // How many jobs a cycle has of a task of period t.
-pub fn jobs_of(h: u32, t: u32) -> u32
+pub(crate) fn jobs_of(h: u32, t: u32) -> u32
     requires { ⌜ 0 < t ⌝ }
     ensures { λ r. ⌜ r ≡ h / t ⌝ }
 {
@@ -28,7 +28,7 @@ fn fill_steps(starts: &mut [u32; 2048], b: usize, k: usize, o: u32, t: u32)
 }
 
 // Writes the number of each task's first job, and the release of each job at its number; answers how many jobs there are.
-pub fn fill_starts(
+pub(crate) fn fill_starts(
     h: u32,
     n: usize,
     period: &[u32; 64],

@@ -82,7 +82,7 @@ fn first_strayed(
 }
 
 // Rule 21 where it is broken: the lowest tick, and its lowest processor.
-pub fn outside_at(
+pub(crate) fn outside_at(
     slots: &[u8],
     m: usize,
     h: u32,

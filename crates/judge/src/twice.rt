@@ -31,7 +31,7 @@ fn is_row_twice(slots: &[u8], m: usize, h: u32, c: u32, a: usize) -> bool
 }
 
 // The lowest tick in which a task stands twice, or h.
-pub fn first_twice(slots: &[u8], m: usize, h: u32) -> u32
+pub(crate) fn first_twice(slots: &[u8], m: usize, h: u32) -> u32
     requires { ⌜ Worded (now slots) m h ⌝ }
     ensures { λ r. ⌜ r ≡ least (clashes (plan (now (slots .entry)) m h)) h ⌝ }
 {
@@ -48,7 +48,7 @@ pub fn first_twice(slots: &[u8], m: usize, h: u32) -> u32
 }
 
 // What processor q shows in tick c.
-pub fn slot_at(slots: &[u8], m: usize, h: u32, c: u32, q: usize) -> u8
+pub(crate) fn slot_at(slots: &[u8], m: usize, h: u32, c: u32, q: usize) -> u8
     requires { ⌜ Worded (now slots) m h × (c < h) × (q < m) ⌝ }
     ensures { λ r. ⌜ r ≡ slot (plan (now (slots .entry)) m h) c q ⌝ }
 {
@@ -71,7 +71,7 @@ fn are_twins(slots: &[u8], m: usize, h: u32, c: u32, q: usize, r: usize) -> bool
 }
 
 // The lowest processor above q that shows in tick c what q shows, or m.
-pub fn mate_of(slots: &[u8], m: usize, h: u32, c: u32, q: usize) -> usize
+pub(crate) fn mate_of(slots: &[u8], m: usize, h: u32, c: u32, q: usize) -> usize
     requires { ⌜ Worded (now slots) m h × (c < h) × (q < m) ⌝ }
     ensures { λ r. ⌜ r ≡ least (twin (plan (now (slots .entry)) m h) c q) m ⌝ }
 {
@@ -86,7 +86,7 @@ pub fn mate_of(slots: &[u8], m: usize, h: u32, c: u32, q: usize) -> usize
 }
 
 // The lowest processor in tick c that has a mate, or m.
-pub fn first_mated(slots: &[u8], m: usize, h: u32, c: u32) -> usize
+pub(crate) fn first_mated(slots: &[u8], m: usize, h: u32, c: u32) -> usize
     requires { ⌜ Worded (now slots) m h × (c < h) ⌝ }
     ensures { λ r. ⌜ r ≡ least (mated (plan (now (slots .entry)) m h) c) m ⌝ }
 {
@@ -101,7 +101,7 @@ pub fn first_mated(slots: &[u8], m: usize, h: u32, c: u32) -> usize
 }
 
 // Rule 20 in tick c: the lowest processor that has a mate, and the lowest that is its mate.
-pub fn twice_in(slots: &[u8], m: usize, h: u32, c: u32) -> Verdict
+pub(crate) fn twice_in(slots: &[u8], m: usize, h: u32, c: u32) -> Verdict
     requires { ⌜ Worded (now slots) m h × (m ≤ 8) × (c < h) × (clashes (plan (now slots) m h) c ≡ true) ⌝ }
     ensures { λ r. ⌜ r ≡ twiceIn (plan (now (slots .entry)) m h) c ⌝ }
 {

@@ -110,7 +110,7 @@ fn visit(
 }
 
 // Slot value v is marked in x.
-pub fn is_marked(x: u64, v: u8) -> bool
+pub(crate) fn is_marked(x: u64, v: u8) -> bool
     requires { ⌜ v ≤ 64 ⌝ }
     ensures { λ r. ⌜ r ≡ marked x v ⌝ }
 {
@@ -121,7 +121,7 @@ pub fn is_marked(x: u64, v: u8) -> bool
 }
 
 // x with slot value v marked.
-pub fn mark(x: u64, v: u8) -> u64
+pub(crate) fn mark(x: u64, v: u8) -> u64
     requires { ⌜ v ≤ 64 ⌝ }
     ensures { λ r. ⌜ Added x v r ⌝ }
 {
@@ -132,7 +132,7 @@ pub fn mark(x: u64, v: u8) -> u64
 }
 
 // Rules 20 and 21 are kept; then the tables tell what each job gets.
-pub fn sweep(
+pub(crate) fn sweep(
     slots: &[u8],
     m: usize,
     h: u32,

@@ -516,7 +516,7 @@ fn take_none() -> Taking
 }
 
 // The head of a file, from the edition to the last pair, into the tables that are lent.
-pub fn read_head(
+fn read_head(
     file: &[u8],
     period: &mut [u32; 64],
     running: &mut [u32; 64],

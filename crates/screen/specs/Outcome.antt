@@ -1,31 +1,27 @@
 -- What the public calls answer, from what their functions told them.
-use mathlib.Core.Path.{_≡_, refl, sym, ap, ap₂, _∙_}
-use mathlib.Core.Bool.{Bool, true, false}
+use mathlib.Core.Path.{_≡_, sym, ap, ap₂, _∙_}
+use mathlib.Core.Bool.{true}
 use mathlib.Core.List.{List}
 use Prim.Native.Nat.{ℕ, _*_, _≤_, _<_}
 use native.Mathlib.Omega.{arith}
 use lib.IntN.{ℤ}
 use lib.ListN.{length, take}
-use Rattle.vocabulary.specs.Least.{least, least-is}
+use Rattle.vocabulary.specs.Least.{least-is}
 use Rattle.vocabulary.specs.Total.{total}
 use Rattle.graph.specs.Graph.{Graph, graphOf, loops, lowest}
-use Rattle.graph.specs.Reach.{Free}
 use Rattle.graph.specs.Cycle.{Linked, relinked}
-use Rattle.kinds.specs.Tasks.{Tasks, Patterns, Set}
+use Rattle.kinds.specs.Tasks.{Set}
 use Rattle.kinds.specs.Cycle.{cycle, jobs, onlyPeriods, cycleOf}
 use Rattle.kinds.specs.declared.Cycle.{Cycle}
-use Rattle.kinds.specs.Jobs.{taskOfJob, jobOfJob}
 use Rattle.kinds.specs.Sound.{sound}
 use Rattle.kinds.specs.Facts.{Sound, sound-facts}
 use Rattle.screen.specs.declared.Job.{Job}
-use Rattle.screen.specs.declared.Finding.{Finding}
 use Rattle.screen.specs.declared.Finding.the-variants as finding
-use Rattle.screen.specs.declared.Adjusted.{Adjusted}
 use Rattle.screen.specs.declared.Adjusted.the-variants as adjusted
 use Rattle.screen.specs.Network.{network}
 use Rattle.screen.specs.Findings.{onCycle, load, room, findingOf}
 use Rattle.screen.specs.Order.{lowestCycle, lowestTight, on-cycle, overloaded, too-tight, nothing-found}
-use Rattle.screen.specs.Spread.{Full, Wired, WiredAsked, wired-network, wired-linked}
+use Rattle.screen.specs.Spread.{Wired, WiredAsked, wired-network, wired-linked}
 use Rattle.screen.specs.Timed.{Straight}
 use Rattle.screen.specs.Named.{cycle-ticks, cycle-jobs, jobAt, bare-job, JobAsked, job-asked, LoadAsked, load-asked, share, load-is, room-is, room-low}
 use Rattle.screen.specs.Written.{Answered, wrong-releases, wrong-deadlines, with-cycle, all-written, releasesOf, deadlinesOf}

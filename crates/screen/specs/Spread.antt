@@ -27,7 +27,7 @@ use Rattle.kinds.specs.Facts.{Sound, some-repeats}
 use Rattle.laws.specs.Order.{before-up, from-job-low, to-job-low}
 use Rattle.screen.specs.declared.Stride.{Stride}
 use Rattle.screen.specs.Network.{Link, noLink, linkOf, pairLinks, patternLinks, cycleLinks, linkStarts, linkEnds, network}
-use Rattle.screen.specs.NetworkLaws.{pair-links, links-length, links-of-network, jobs-of-network, inside-network}
+use Rattle.screen.specs.NetworkLaws.{pair-links, links-length, inside-network}
 
 -- ---- links written from place e on, up to place r; what stood before e stands
 pub record Appended (gs : List Link) (e r : ℕ) (f t f′ t′ : List ℕ) : Type 0 where

@@ -1,15 +1,15 @@
 -- The times of a cycle's jobs in lists: own ones, written task by task, and the adjusted ones that rounds leave of them.
-use mathlib.Core.Path.{_≡_, refl, sym, ap, ap₂, _∙_, subst}
-use mathlib.Core.Bool.{Bool, true, false}
+use mathlib.Core.Path.{_≡_, refl, sym, ap, ap₂, _∙_}
+use mathlib.Core.Bool.{Bool}
 use mathlib.Core.List.{List}
 use mathlib.Core.Logic.{_⊎_, inl, inr}
-use Prim.Native.Nat.{ℕ, suc, _+_, _-_, _*_, _/_, _%_, _≤_, _<_}
-use native.Mathlib.Nat.{div-add-mod', div-le-self}
+use Prim.Native.Nat.{ℕ, suc, _+_, _-_, _*_, _/_, _≤_, _<_}
+use native.Mathlib.Nat.{div-add-mod'}
 use native.Mathlib.Numerals.{add-one}
 use native.Mathlib.Omega.{arith}
 use lib.Dec.{ltb}
 use lib.IntN.{ℤ, pos, subℕ}
-use lib.ListN.{length, getD, set, take, replicate, length-set, length-replicate}
+use lib.ListN.{length, set, take, replicate, length-set, length-replicate}
 use lib.Seq.{getD-set-same, getD-set-other, getD-take}
 use lib.Signed.{ltZ}
 use Rattle.vocabulary.specs.Test.{lt-or-le, eq-or-ne}
@@ -38,7 +38,7 @@ use Rattle.screen.specs.Times.{ownRelease, ownDue, ownRunning, releaseWe
 use Rattle.screen.specs.TimesLaws.{own-release-low, own-due-low, own-running-low}
 use Rattle.screen.specs.Findings.{tight}
 
--- no own deadline is later
+-- tick 12,000: no own deadline is later
 abbrev pub top : ℕ
 top = 12000
 
@@ -179,7 +179,7 @@ own-end u run rel dues b i p l =
     let g : i ≡ u .count = omega (arith, p .within) in
     rw (p .first ∙ ap (jobsBefore u) g) at (p .done)
 
--- ---- how far before the latest time each own deadline lies
+-- ---- how far before tick 12,000 each own deadline lies
 pub record Turned (v v′ : List ℕ) : Type 0 where
   pub long : length v′ ≡ length v
   pub each : (x : ℕ) → x < length v → at v′ x ≡ top - at v x
@@ -223,7 +223,7 @@ pub record TimesAsked (f t : List ℕ) (u : Tasks) (h : ℕ) (zero run rel ahead
   pub zeros : Zeros zero (jobs u)
   pub sized : Sized u run rel ahead
 
--- running times, adjusted releases, and how far before the latest time each adjusted deadline lies
+-- running times, adjusted releases, and how far before tick 12,000 each adjusted deadline lies
 pub record Timed (f t : List ℕ) (u : Tasks) (run rel ahead : List ℕ) : Type 0 where
   pub sized : Sized u run rel ahead
   pub runs : (x : ℕ) → x < jobs u → at run x ≡ ownRunning u x

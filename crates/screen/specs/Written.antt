@@ -1,22 +1,20 @@
 -- The call for adjusted times, from what its tests said: answer and both buffers, for every input.
-use mathlib.Core.Path.{_≡_, refl, sym, ap, _∙_}
-use mathlib.Core.Bool.{Bool, true, false, _||_, not}
+use mathlib.Core.Path.{_≡_, sym, _∙_}
+use mathlib.Core.Bool.{true, false}
 use mathlib.Core.List.{List}
-use Prim.Native.Nat.{ℕ, _≤_, _<_}
-use lib.Dec.{eqb, ltb}
+use Prim.Native.Nat.{_≤_, _<_}
 use lib.IntN.{ℤ, pos}
 use lib.ListN.{length}
 use borrow.Author.Tests.{lt-ltb, le-ltb, eq-eqb, ne-eqb}
-use Rattle.vocabulary.specs.Test.{pick}
 use Rattle.vocabulary.specs.Table.{table}
-use Rattle.kinds.specs.Tasks.{Tasks, Patterns, Set}
+use Rattle.kinds.specs.Tasks.{Set}
 use Rattle.kinds.specs.Cycle.{jobs}
 use Rattle.kinds.specs.Jobs.{taskOfJob, jobOfJob}
 use Rattle.kinds.specs.Sound.{sound}
 use Rattle.screen.specs.declared.Adjusted.{Adjusted}
 use Rattle.screen.specs.declared.Adjusted.the-variants as adjusted
 use Rattle.screen.specs.Times.{adjustedRelease, adjustedDeadline}
-use Rattle.screen.specs.Findings.{onCycle, byCases, adjustedOf, releasesLeft, deadlinesLeft}
+use Rattle.screen.specs.Findings.{byCases, adjustedOf, releasesLeft, deadlinesLeft}
 use Rattle.screen.specs.Order.{lowestCycle}
 
 -- the two lists that are written

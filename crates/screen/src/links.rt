@@ -117,7 +117,7 @@ fn put_patterns(
 }
 
 // The links of a cycle of h ticks; how many there are.
-pub fn of_set(set: TaskSet, h: u32, from: &mut [u16; 4096], to: &mut [u16; 4096]) -> usize
+pub(crate) fn of_set(set: TaskSet, h: u32, from: &mut [u16; 4096], to: &mut [u16; 4096]) -> usize
     requires { ⌜ WiredAsked (view set) h (now from) (now to) ⌝ }
     ensures { λ r. ⌜ Wired (view set) r (now (from .exit)) (now (to .exit)) ⌝ }
 {

@@ -1,7 +1,7 @@
-// Rounds in place over a list of links between jobs: the lowest job that lies on a cycle, and the numbers that solve the equations of adjusted times.
+// Rounds in place over a list of links between jobs. They give the lowest job that lies on a cycle, and the numbers that solve the equations of adjusted times.
 ghost use mathlib.Core.Path.{_≡_};
-ghost use mathlib.Core.Bool.{Bool, true, false};
-ghost use Prim.Native.Nat.{ℕ, _+_, _≤_, _<_, min};
+ghost use mathlib.Core.Bool.{true, false};
+ghost use Prim.Native.Nat.{_+_, _≤_, _<_, min};
 ghost use lib.ListN.{length, getD};
 ghost use Rattle.vocabulary.specs.Least.{some};
 ghost use Rattle.graph.specs.Graph.{graphOf, loops, lowest};
@@ -49,7 +49,7 @@ fn pass(from: &[u16], to: &[u16], w: &[u32], v: &mut [u32]) -> bool
 }
 
 // Rounds until nothing changes, at most one a job.
-pub fn settle(from: &[u16], to: &[u16], w: &[u32], v: &mut [u32])
+pub(crate) fn settle(from: &[u16], to: &[u16], w: &[u32], v: &mut [u32])
     requires { ⌜ Lined (now from) (now to) (now w) (now v) ⌝ }
     ensures { λ r. ⌜ Settled (now (from .entry)) (now (to .entry)) (now (w .entry)) (now (v .entry)) (now (v .exit)) ⌝ }
 {
@@ -129,7 +129,7 @@ fn on_cycle(from: &[u16], to: &[u16], zero: &[u32], x: usize, v: &mut [u32]) -> 
     closed(from, to, v, x)
 }
 
-// The same; a job whose rank along or against the links stayed below the number of jobs is cleared at once.
+// Whether job x lies on a cycle. One whose rank along or against the links stayed below the number of jobs lies on none, and is not searched.
 fn tested(
     from: &[u16],
     to: &[u16],
@@ -175,7 +175,7 @@ fn search(
     x
 }
 
-// The rank of each job: how many links lead to it one after another, at most, where no way to it comes through a cycle.
+// The rank of each job: the most links that lead to it one after another. It stays below the number of jobs unless a way to the job comes through a cycle.
 fn rank_jobs(from: &[u16], to: &[u16], w: &mut [u32], v: &mut [u32])
     requires { ⌜ (Linked (now from) (now to) (length (now v))) × (length (now w) ≡ length (now v)) × (length (now v) ≤ 2048) ⌝ }
     ensures { λ r. ⌜ Ranked (now (from .entry)) (now (to .entry)) (now (v .exit)) (length (now (v .entry))) ⌝ }
@@ -185,7 +185,7 @@ fn rank_jobs(from: &[u16], to: &[u16], w: &mut [u32], v: &mut [u32])
     settle(from, to, w, v);
 }
 
-// The same. Ranks that grow along each link show that there is no cycle; else ranks both ways clear most jobs.
+// The lowest job that lies on a cycle, the number of jobs where none does. Ranks that grow along each link show that none does; else ranks both ways clear most jobs.
 fn lowest_by(
     from: &[u16],
     to: &[u16],
@@ -206,8 +206,8 @@ fn lowest_by(
     search(from, to, w, rank, back, v)
 }
 
-// The same, with scratch of its own.
-pub fn lowest_of(from: &[u16], to: &[u16], n: usize) -> usize
+// The lowest of n jobs that lies on a cycle, n where none does.
+pub(crate) fn lowest_of(from: &[u16], to: &[u16], n: usize) -> usize
     requires { ⌜ (Linked (now from) (now to) n) × (n ≤ 2048) ⌝ }
     ensures { λ r. ⌜ r ≡ lowest (graphOf (now (from .entry)) (now (to .entry)) n) ⌝ }
 {

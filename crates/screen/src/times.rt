@@ -1,8 +1,7 @@
-// The times of a cycle's jobs: own and adjusted releases and deadlines, and the lowest job that is too tight.
+// The times of a cycle's jobs: own and adjusted releases and deadlines, and the lowest job that is too tight. Deadlines are counted back from tick 12,000, which no own deadline passes, so that rounds of unsigned numbers serve for both times.
 ghost use mathlib.Core.Path.{_≡_};
-ghost use mathlib.Core.Bool.{Bool};
 ghost use Prim.Native.Nat.{ℕ, _+_, _*_, _≤_, _<_};
-ghost use lib.IntN.{ℤ, pos, subℕ};
+ghost use lib.IntN.{pos, subℕ};
 ghost use lib.ListN.{length, getD};
 ghost use Rattle.vocabulary.specs.Least.{least};
 ghost use Rattle.vocabulary.specs.Table.{table};
@@ -61,7 +60,7 @@ fn own_times(
     }
 }
 
-// How far before the latest time each deadline lies.
+// How far before tick 12,000 each deadline lies.
 fn turn(v: &mut [u32])
     requires { ⌜ ((x : ℕ) → x < length (now v) → getD (now v) x 0 ≤ top) ⌝ }
     ensures { λ r. ⌜ Turned (now (v .entry)) (now (v .exit)) ⌝ }
@@ -73,7 +72,7 @@ fn turn(v: &mut [u32])
     }
 }
 
-// Running times, adjusted releases, and how far before the latest time each adjusted deadline lies, where the links make no cycle.
+// Running times, adjusted releases, and how far before tick 12,000 each adjusted deadline lies, where the links make no cycle.
 fn times_of(
     from: &[u16],
     to: &[u16],
@@ -120,7 +119,7 @@ fn first_over(run: &[u32], rel: &[u32], ahead: &[u32]) -> usize
     x
 }
 
-// What x leaves of the latest time, signed.
+// The time that lies x before tick 12,000, signed.
 fn left_of(x: u32) -> i32
     requires { ⌜ x ≤ limit ⌝ }
     ensures { λ r. ⌜ r ≡ subℕ top x ⌝ }
@@ -136,7 +135,7 @@ fn plain(x: u32) -> i32
     x as i32
 }
 
-// What each number leaves of the latest time.
+// The time that lies each number before tick 12,000.
 fn write_left(v: &[u32], out: &mut [i32])
     requires { ⌜ (length (now v) ≡ length (now out)) × ((x : ℕ) → x < length (now v) → getD (now v) x 0 ≤ limit) ⌝ }
     ensures { λ r. ⌜ now (out .exit) ≡ table (λ x. subℕ top (getD (now (v .entry)) x 0)) (length (now (out .entry))) ⌝ }
@@ -198,7 +197,7 @@ fn tight_by(
 }
 
 // The lowest tight job of a cycle of h ticks and n jobs, n where there is none.
-pub fn lowest_tight(set: TaskSet, h: u32, n: usize, from: &[u16], to: &[u16]) -> usize
+pub(crate) fn lowest_tight(set: TaskSet, h: u32, n: usize, from: &[u16], to: &[u16]) -> usize
     requires { ⌜ (Straight (view set) h (now from) (now to)) × (n ≡ jobs (view set .tasks)) ⌝ }
     ensures { λ r. ⌜ r ≡ lowestTight (view set) ⌝ }
 {
@@ -265,7 +264,7 @@ fn write_by(
 }
 
 // Adjusted releases and deadlines of each job of a cycle of h ticks.
-pub fn write_times(
+pub(crate) fn write_times(
     set: TaskSet,
     h: u32,
     from: &[u16],

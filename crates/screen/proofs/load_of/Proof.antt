@@ -1,7 +1,6 @@
 use Rattle.screen.specs.Named.{Loading, load-from, load-on, load-end}
 use Prim.Native.Nat.{_-_}
 use native.Mathlib.Omega.{arith}
-use borrow.Author.Needs.{needs}
 use Rattle.screen.proofs.load_of.Statement.{statement}
 use Rattle.screen.proofs.load_of.Tie as tie
 

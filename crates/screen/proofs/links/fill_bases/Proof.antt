@@ -1,7 +1,6 @@
 use Rattle.screen.specs.Spread.{Basing, base-from, base-on, base-room, base-end}
 use Prim.Native.Nat.{_-_}
 use native.Mathlib.Omega.{arith}
-use borrow.Author.Needs.{needs}
 use Rattle.screen.proofs.links.fill_bases.Statement.{statement}
 use Rattle.screen.proofs.links.fill_bases.Tie as tie
 

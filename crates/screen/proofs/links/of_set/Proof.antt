@@ -1,6 +1,5 @@
 use Rattle.screen.specs.Spread.{bases-asked, wired-asks, wired}
 use mathlib.Core.Path.{refl}
-use borrow.Author.Needs.{needs}
 use Rattle.screen.proofs.links.of_set.Statement.{statement}
 use Rattle.screen.proofs.links.of_set.Tie as tie
 

@@ -1,6 +1,6 @@
 use Rattle.screen.specs.Spread.{Appended, pairMade, append-join, append-turn, append-end, pairs-room}
 use Rattle.vocabulary.specs.Table.{join}
-use mathlib.Core.Path.{_≡_, ap, _∙_}
+use mathlib.Core.Path.{_∙_}
 use Prim.Native.Nat.{_-_, _≤_}
 use native.Mathlib.Omega.{arith}
 use borrow.Author.Needs.{needs}

@@ -3,7 +3,6 @@ use Rattle.vocabulary.specs.Least.{Seeking, seek, on, hit, miss, some-lt, some-
 use mathlib.Core.Path.{sym, _∙_}
 use Prim.Native.Nat.{_-_}
 use lib.ListN.{length}
-use native.Mathlib.Omega.{arith}
 use borrow.Author.Needs.{needs}
 use Rattle.screen.proofs.settle.closed.Statement.{statement}
 use Rattle.screen.proofs.settle.closed.Tie as tie

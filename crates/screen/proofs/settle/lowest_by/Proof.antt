@@ -1,6 +1,6 @@
 use Rattle.graph.specs.Cycle.{relinked, filled-zeros, grown}
 use Rattle.graph.specs.Ranked.{reranked, ranked-back, linked-back}
-use mathlib.Core.Path.{_≡_, sym, ap, _∙_, refl}
+use mathlib.Core.Path.{sym, _∙_}
 use native.Mathlib.Omega.{arith}
 use borrow.Author.Needs.{needs}
 use Rattle.screen.proofs.settle.lowest_by.Statement.{statement}

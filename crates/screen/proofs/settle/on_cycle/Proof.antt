@@ -1,6 +1,5 @@
 use Rattle.graph.specs.Cycle.{relinked, cycle-lined, cycle-long, cycle-found}
-use mathlib.Core.Path.{sym, _∙_, refl}
-use native.Mathlib.Omega.{arith}
+use mathlib.Core.Path.{_∙_}
 use borrow.Author.Needs.{needs}
 use Rattle.screen.proofs.settle.on_cycle.Statement.{statement}
 use Rattle.screen.proofs.settle.on_cycle.Tie as tie

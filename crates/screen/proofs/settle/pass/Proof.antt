@@ -1,7 +1,7 @@
-use Rattle.graph.specs.Pass.{Lined, Passing, pass-from, pass-asks, pass-on, pass-end}
+use Rattle.graph.specs.Pass.{Passing, pass-from, pass-asks, pass-on, pass-end}
 use Rattle.vocabulary.specs.Test.{clash}
 use mathlib.Core.Logic.{⊎-elim}
-use mathlib.Core.Path.{sym, _∙_, refl}
+use mathlib.Core.Path.{sym, _∙_}
 use native.Mathlib.Omega.{arith}
 use Prim.Native.Nat.{_-_}
 use lib.ListN.{length}

@@ -2,7 +2,7 @@ use Rattle.graph.specs.Ranked.{reranked}
 use Rattle.graph.specs.Cycle.{relinked, rezeros, loops-as}
 use Rattle.graph.specs.Graph.{graphOf, loops, lowest}
 use Rattle.vocabulary.specs.Least.{Seeking, seek, on, hit, miss}
-use mathlib.Core.Path.{_≡_, sym, ap, _∙_, refl}
+use mathlib.Core.Path.{_≡_, _∙_, refl}
 use Prim.Native.Nat.{_-_}
 use lib.ListN.{length}
 use native.Mathlib.Omega.{arith}

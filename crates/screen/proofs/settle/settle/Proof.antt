@@ -1,6 +1,6 @@
-use Rattle.graph.specs.Pass.{Lined, Settling, settle-from, still-lined, settle-on, settle-still, settle-end}
+use Rattle.graph.specs.Pass.{Settling, settle-from, still-lined, settle-on, settle-still, settle-end}
 use borrow.Author.Tests.{not-true}
-use mathlib.Core.Path.{sym, _∙_, refl}
+use mathlib.Core.Path.{_∙_}
 use native.Mathlib.Omega.{arith}
 use Prim.Native.Nat.{_-_, _≤_}
 use lib.ListN.{length}

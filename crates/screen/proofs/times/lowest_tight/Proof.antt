@@ -2,7 +2,6 @@ use Rattle.vocabulary.specs.Prefix.{taken}
 use Rattle.screen.specs.Timed.{scratch-low, scratch-asked, lowest-tight}
 use mathlib.Core.Path.{refl, sym, _∙_}
 use native.Mathlib.Omega.{arith}
-use borrow.Author.Needs.{needs}
 use Rattle.screen.proofs.times.lowest_tight.Statement.{statement}
 use Rattle.screen.proofs.times.lowest_tight.Tie as tie
 
