@@ -116,8 +116,12 @@ unfoldable pub onSlots : Outcome → Loaded → Loaded
 onSlots (outcome.At q) l = l
 onSlots (outcome.Refused r) l = refused r
 
+-- after a head with the set u: m·H slots, and the end
+abbrev pub closedOf : List ℕ → ℕ → Shape → TaskSet → Loaded
+closedOf s at f u = onSlots (slotsFrom s (f .processors * f .ticks) at (f .tasks)) (loaded (outcome.At at) u)
+
 unfoldable pub onHead : List ℕ → Head → TaskTables → PatternTables → Loaded
-onHead s (head.Of f at) t v = onSlots (slotsFrom s (f .processors * f .ticks) at (f .tasks)) (loaded (outcome.At at) (setOf f t v))
+onHead s (head.Of f at) t v = closedOf s at f (setOf f t v)
 onHead s (head.Refused r) t v = refused r
 
 -- "The reader answers with the set and the place of the first slot".
@@ -128,8 +132,12 @@ readOf s = let r : HeadRead = headFrom s noTaskTables noPatternTables in onHead 
 abbrev pub notTaken : Taking
 notTaken = record { fits = false; set = noTasks 0 0 }
 
+-- a head with the set u that ends at a place of so many bytes
+abbrev pub wholeOf : ℕ → ℕ → TaskSet → Taking
+wholeOf at len u = pick (eqb at len) (record { fits = true; set = u }) notTaken
+
 unfoldable pub takeHead : List ℕ → Head → TaskTables → PatternTables → Taking
-takeHead s (head.Of f at) t v = pick (eqb at (length s)) (record { fits = true; set = setOf f t v }) notTaken
+takeHead s (head.Of f at) t v = wholeOf at (length s) (setOf f t v)
 takeHead s (head.Refused r) t v = notTaken
 
 unfoldable pub takenOf : List ℕ → Taking

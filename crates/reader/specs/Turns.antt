@@ -1,6 +1,6 @@
 -- One turn of each table, and the ways through a file, each by the answers of its parts.
 use mathlib.Core.Bool.{true, false}
-use mathlib.Core.Path.{_≡_, refl}
+use mathlib.Core.Path.{_≡_, refl, _∙_}
 use mathlib.Core.List.{List}
 use Prim.Native.Nat.{ℕ, suc, _+_, _-_, _*_, _<_, _≤_}
 use native.Mathlib.Omega.{arith}
@@ -11,6 +11,7 @@ use Rattle.kinds.specs.declared.Key.{Key}
 use Rattle.kinds.specs.declared.Spans.{Spans}
 use Rattle.kinds.specs.Limits.{noKey, after, mostLinks}
 use Rattle.kinds.specs.Links.{spansOf, linksIn}
+use Rattle.kinds.specs.declared.TaskSet.{TaskSet}
 use Rattle.reader.specs.declared.Refusal.{Refusal}
 use Rattle.reader.specs.declared.Refusal.the-variants as refusal
 use Rattle.reader.specs.declared.Heading.the-variants as heading
@@ -24,9 +25,11 @@ use Rattle.reader.specs.declared.Opening.the-variants as opening
 use Rattle.reader.specs.declared.Middle.{Middle}
 use Rattle.reader.specs.declared.Middle.the-variants as middle
 use Rattle.reader.specs.declared.Shape.{Shape}
+use Rattle.reader.specs.declared.Loaded.{Loaded}
+use Rattle.reader.specs.declared.Taking.{Taking}
 use Rattle.reader.specs.declared.Head.{Head}
 use Rattle.reader.specs.declared.Head.the-variants as head
-use Rattle.reader.specs.Files.{openingOf, middleFrom, headRead, onOpening, onTasks, onMiddle, onPatterns, headFrom, slotsFrom, setOf, loaded, refused, onSlots, onHead, readOf, notTaken, takeHead, takenOf}
+use Rattle.reader.specs.Files.{openingOf, middleFrom, headRead, onOpening, onTasks, onMiddle, onPatterns, headFrom, slotsFrom, setOf, loaded, refused, onSlots, closedOf, onHead, readOf, notTaken, wholeOf, takeHead, takenOf}
 
 -- what is left of a count, one turn earlier, and at the end
 left : (n i : ℕ) → i < n → n - i ≡ suc (n - (i + 1))
@@ -136,17 +139,20 @@ pub read-refused : (s : List ℕ) (t : TaskTables) (v : PatternTables) {o : Head
 unfolding readOf onHead
 read-refused s t v a b = rw (← a, b)
 
-pub read-stopped : (s : List ℕ) (t : TaskTables) (v : PatternTables) {o : Head} {f : Shape} {at k : ℕ} {q : Outcome} {r : Refusal}
-    → headRead o t v ≡ headFrom s noTaskTables noPatternTables → o ≡ head.Of f at → k ≡ f .processors * f .ticks → q ≡ slotsFrom s k at (f .tasks) → q ≡ outcome.Refused r
-    → refused r ≡ readOf s
-unfolding readOf onHead onSlots
-read-stopped s t v a b c d e = rw (← a, b, ← c, ← d, e)
+pub closed-stopped : (s : List ℕ) (at : ℕ) (f : Shape) (u : TaskSet) {k : ℕ} {q : Outcome} {r : Refusal}
+    → k ≡ f .processors * f .ticks → q ≡ slotsFrom s k at (f .tasks) → q ≡ outcome.Refused r → refused r ≡ closedOf s at f u
+unfolding onSlots
+closed-stopped s at f u c d e = rw (← c, ← d, e)
 
-pub read-whole : (s : List ℕ) (t : TaskTables) (v : PatternTables) {o : Head} {f : Shape} {at k p : ℕ} {q : Outcome}
-    → headRead o t v ≡ headFrom s noTaskTables noPatternTables → o ≡ head.Of f at → k ≡ f .processors * f .ticks → q ≡ slotsFrom s k at (f .tasks) → q ≡ outcome.At p
-    → loaded (outcome.At at) (setOf f t v) ≡ readOf s
-unfolding readOf onHead onSlots
-read-whole s t v a b c d e = rw (← a, b, ← c, ← d, e)
+pub closed-whole : (s : List ℕ) (at : ℕ) (f : Shape) (u : TaskSet) {k p : ℕ} {q : Outcome}
+    → k ≡ f .processors * f .ticks → q ≡ slotsFrom s k at (f .tasks) → q ≡ outcome.At p → loaded (outcome.At at) u ≡ closedOf s at f u
+unfolding onSlots
+closed-whole s at f u c d e = rw (← c, ← d, e)
+
+pub read-closed : (s : List ℕ) (t : TaskTables) (v : PatternTables) {o : Head} {f : Shape} {at : ℕ} {u : TaskSet} {l : Loaded}
+    → headRead o t v ≡ headFrom s noTaskTables noPatternTables → o ≡ head.Of f at → u ≡ setOf f t v → l ≡ closedOf s at f u → l ≡ readOf s
+unfolding readOf onHead
+read-closed s t v a b g q = q ∙ rw (g, ← a, b)
 
 -- ---- the head alone: it is refused; bytes are left over; neither
 pub taken-refused : (s : List ℕ) (t : TaskTables) (v : PatternTables) {o : Head} {r : Refusal}
@@ -154,12 +160,7 @@ pub taken-refused : (s : List ℕ) (t : TaskTables) (v : PatternTables) {o : Hea
 unfolding takenOf takeHead
 taken-refused s t v a b = rw (← a, b)
 
-pub taken-over : (s : List ℕ) (t : TaskTables) (v : PatternTables) {o : Head} {f : Shape} {at : ℕ}
-    → headRead o t v ≡ headFrom s noTaskTables noPatternTables → o ≡ head.Of f at → eqb at (length s) ≡ false → notTaken ≡ takenOf s
+pub taken-closed : (s : List ℕ) (t : TaskTables) (v : PatternTables) {o : Head} {f : Shape} {at : ℕ} {u : TaskSet} {x : Taking}
+    → headRead o t v ≡ headFrom s noTaskTables noPatternTables → o ≡ head.Of f at → u ≡ setOf f t v → x ≡ wholeOf at (length s) u → x ≡ takenOf s
 unfolding takenOf takeHead
-taken-over s t v a b c = rw (← a, b, c)
-
-pub taken-whole : (s : List ℕ) (t : TaskTables) (v : PatternTables) {o : Head} {f : Shape} {at : ℕ}
-    → headRead o t v ≡ headFrom s noTaskTables noPatternTables → o ≡ head.Of f at → eqb at (length s) ≡ true → record { fits = true; set = setOf f t v } ≡ takenOf s
-unfolding takenOf takeHead
-taken-whole s t v a b c = rw (← a, b, c)
+taken-closed s t v a b g q = q ∙ rw (g, ← a, b)

@@ -9,7 +9,7 @@ ghost use Rattle.reader.specs.Answers.{refusalNumber, refusalEvidence, n
 ghost use Rattle.reader.specs.Numbers.{numberAt, gotAt};
 ghost use Rattle.reader.specs.Bytes.{secondAt, thirdAt};
 ghost use Rattle.reader.specs.Tables.{taskFrom, tasksFrom, tasksRead, taskTables, twoAt, pairsFrom, pairsRead, pairTables, headingAt, patternsFrom, patternsRead, patternTables};
-ghost use Rattle.reader.specs.Files.{openingOf, middleFrom, headRead, headFrom, slotsFrom, refused, readOf, notTaken, takenOf};
+ghost use Rattle.reader.specs.Files.{setOf, closedOf, wholeOf, openingOf, middleFrom, headRead, headFrom, slotsFrom, refused, readOf, notTaken, takenOf};
 ghost use Rattle.reader.specs.Turns.{closing, shapeOf};
 use kinds::Key;
 use kinds::TaskSet;
@@ -568,6 +568,61 @@ fn read_head(
     }
 }
 
+// The set of a head: its numbers and its tables.
+fn set_of(
+    f: Shape,
+    period: [u32; 64],
+    running: [u32; 64],
+    offset: [u32; 64],
+    deadline: [u32; 64],
+    from: [u32; 64],
+    to: [u32; 64],
+    pairs: [u32; 64],
+    first: [u16; 1024],
+    second: [u16; 1024],
+) -> TaskSet
+    ensures { λ r. ⌜ r ≡ setOf f (taskTables period running offset deadline) (patternTables from to pairs first second) ⌝ }
+{
+    TaskSet {
+        edition: f.edition,
+        processors: f.processors,
+        tasks: f.tasks,
+        period,
+        running,
+        offset,
+        deadline,
+        patterns: f.patterns,
+        from,
+        to,
+        pairs,
+        first,
+        second,
+    }
+}
+
+// What the file answers, after its head: the slots, and nothing behind them.
+fn close_file(file: &[u8], at: usize, f: Shape, set: TaskSet) -> Loaded
+    ensures { λ r. ⌜ r ≡ closedOf (now (file .entry)) at f set ⌝ }
+{
+    match read_slots(file, at, slot_count(f.processors, f.ticks), f.tasks) {
+        Outcome::Refused(r) => refuse(r),
+        Outcome::At(_) => Loaded {
+            outcome: Outcome::At(at),
+            set,
+        },
+    }
+}
+
+// The set of a head that ends where the bytes do.
+fn take_whole(at: usize, length: usize, set: TaskSet) -> Taking
+    ensures { λ r. ⌜ r ≡ wholeOf at length set ⌝ }
+{
+    if at == length {
+        return Taking { fits: true, set };
+    }
+    take_none()
+}
+
 // The task set of a plan file and the place of its first slot.
 pub fn read(file: &[u8]) -> Loaded
     ensures { λ r. ⌜ r ≡ readOf (now (file .entry)) ⌝ }
@@ -594,30 +649,21 @@ pub fn read(file: &[u8]) -> Loaded
         &mut second,
     ) {
         Head::Refused(r) => refuse(r),
-        Head::Of(f, at) => match read_slots(file, at, slot_count(f.processors, f.ticks), f.tasks) {
-            Outcome::Refused(r) => refuse(r),
-            Outcome::At(_) => {
-                let set = TaskSet {
-                    edition: f.edition,
-                    processors: f.processors,
-                    tasks: f.tasks,
-                    period,
-                    running,
-                    offset,
-                    deadline,
-                    patterns: f.patterns,
-                    from,
-                    to,
-                    pairs,
-                    first,
-                    second,
-                };
-                Loaded {
-                    outcome: Outcome::At(at),
-                    set,
-                }
-            }
-        },
+        Head::Of(f, at) => {
+            let set = set_of(
+                f,
+                period,
+                running,
+                offset,
+                deadline,
+                from,
+                to,
+                pairs,
+                first,
+                second,
+            );
+            close_file(file, at, f, set)
+        }
     }
 }
 
@@ -648,25 +694,19 @@ pub fn take_head(bytes: &[u8]) -> Taking
     ) {
         Head::Refused(_) => take_none(),
         Head::Of(f, at) => {
-            if at != bytes.len() {
-                return take_none();
-            }
-            let set = TaskSet {
-                edition: f.edition,
-                processors: f.processors,
-                tasks: f.tasks,
+            let set = set_of(
+                f,
                 period,
                 running,
                 offset,
                 deadline,
-                patterns: f.patterns,
                 from,
                 to,
                 pairs,
                 first,
                 second,
-            };
-            Taking { fits: true, set }
+            );
+            take_whole(at, bytes.len(), set)
         }
     }
 }
