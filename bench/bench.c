@@ -97,8 +97,13 @@ int main(int argc, char **argv)
     largest(&file);
     measure_all("largest plan");
     longest_file(&file);
-    printf("longest file (64 patterns, 1,024 pairs)\n");
+    printf("longest file (64 tasks, 64 patterns, 1,024 pairs)\n");
     measure("read", read_archive, read_plain);
+    file.length = file.tasks;
+    printf("its head alone, after which the file ends\n");
+    measure("read", read_archive, read_plain);
+    full(&file);
+    measure_all("every slot in use");
     periods(&file, 240, 250);
     printf("64 tasks of two periods, no pattern\n");
     measure("read", read_archive, read_plain);

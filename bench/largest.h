@@ -124,4 +124,30 @@ static void periods(made *f, uint32_t a, uint32_t b)
     put(f, 0);
     f->tasks = f->length;
 }
+
+/* A plan with every slot in use: 64 tasks, 8 processors, H 6,000. Processors 0 to 3 run eight tasks of period 240 each in turn, 30 ticks apiece, and
+   processors 4 to 7 eight of period 2,000 each, 250 ticks apiece. */
+static void full(made *f)
+{
+    uint32_t i, t, q;
+    f->length = 0;
+    put(f, 1);
+    put(f, 64);
+    put(f, 8);
+    for (i = 0; i < 64; i++) {
+        put(f, i < 32 ? 240 : 2000);
+        put(f, i < 32 ? 30 : 250);
+        put(f, 0);
+        put(f, i < 32 ? 240 : 2000);
+    }
+    put(f, 0);
+    f->tasks = f->length;
+    for (t = 0; t < 6000; t++)
+        for (q = 0; q < 8; q++)
+            f->bytes[f->length++] = (uint8_t)(1 + q * 8 + (q < 4 ? t % 240 / 30 : t % 2000 / 250));
+    f->processors = 8;
+    f->cycle = 6000;
+    f->count = 64;
+    f->jobs = 896;
+}
 #endif
