@@ -13,6 +13,7 @@ gcc -O2 -Wall -Wextra -DNO_BUFFERS tests/vectors.c bench/plain.c target/staticli
 gcc -O2 -Wall -Wextra -DPLAIN tests/vectors.c bench/plain.c -o "$out/vectors_plain" || { echo '0 passed, 1 failed'; exit 1; }
 
 gcc -O2 -Wall -Wextra -Wno-unused-function -DNO_BUFFERS tests/largest.c bench/plain.c target/staticlib/libflute.a -o "$out/largest" || { echo '0 passed, 1 failed'; exit 1; }
+gcc -O2 -Wall -Wextra -DNO_BUFFERS tests/random.c bench/plain.c target/staticlib/libflute.a -o "$out/random" || { echo '0 passed, 1 failed'; exit 1; }
 
 # count NAME COMMAND..: run it and take its last line into the sum.
 count() {
@@ -38,6 +39,7 @@ for kind in reader judge screen; do
     count "archive, $kind" "$out/vectors" $kind tests/vectors/$kind.txt
 done
 count 'archive, largest plans' "$out/largest"
+count 'archive against plain C, random cases' "$out/random" 50000
 
 # Stored runs of the programs: tests/runs/PROGRAM/NAME.in is what it reads, NAME.out what it prints.
 for input in tests/runs/*/*.in; do
