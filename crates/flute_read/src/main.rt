@@ -1,56 +1,14 @@
 // Reads a plan file: the one that the first argument names, or standard input. The first line is document 01's number, its evidence and words; then come
 // the tasks and the patterns of a file that was read.
-ghost use Rattle.io.specs.Counts.{Counts};
 use kinds::TaskSet;
 use libc::STDOUT_FILENO;
 use reader::Outcome;
 use reader::Refusal;
 
-// What a refusal means.
-fn put_reason(out: &mut [u8], at: usize, r: Refusal) -> usize
-    ensures { λ r. ⌜ Counts r (now (out .exit)) ⌝ }
-{
-    match r {
-        Refusal::Ends(_) => console::put(out, at, b" the file ends before a needed number or slot"),
-        Refusal::Malformed(_) => console::put(out, at, b" a number is not in its shortest form"),
-        Refusal::UnknownEdition => console::put(out, at, b" the edition is unknown"),
-        Refusal::OutOfLimits(_) => console::put(out, at, b" a number is outside the limits"),
-        Refusal::TooLong(_) => console::put(
-            out,
-            at,
-            b" the cycle has over 6,000 ticks or over 2,048 jobs",
-        ),
-        Refusal::Disordered(_) => console::put(
-            out,
-            at,
-            b" a pattern or pair is out of range or order",
-        ),
-        Refusal::TooManyLinks(_) => console::put(out, at, b" the cycle has over 4,096 links"),
-        Refusal::BadSlot(_) => console::put(out, at, b" a slot is above the task count"),
-        Refusal::LeftOver(_) => console::put(out, at, b" bytes are left over after the last slot"),
-    }
-}
-
-fn print_refusal(number: u32, place: usize, r: Refusal) {
+fn print_refusal(r: Refusal) {
     let mut line = io::buffer();
-    let mut at = console::put_number(&mut line, 0, number as u64);
-    at = console::put(&mut line, at, b" ");
-    at = console::put_number(&mut line, at, place as u64);
-    at = put_reason(&mut line, at, r);
-    at = console::put(&mut line, at, b"\n");
+    let at = wording::put_refusal(&mut line, 0, r);
     io::write_all(STDOUT_FILENO, &line[..at]);
-}
-
-// A count with its word, as `1 task` or `3 tasks`.
-fn put_counted(out: &mut [u8], at: usize, n: u64, word: &[u8]) -> usize
-    ensures { λ r. ⌜ Counts r (now (out .exit)) ⌝ }
-{
-    let to = console::put_number(out, at, n);
-    let then = console::put(out, to, word);
-    if n == 1 {
-        return then;
-    }
-    console::put(out, then, b"s")
 }
 
 fn print_first(place: usize, tasks: usize, processors: u32, ticks: u32) {
@@ -58,9 +16,9 @@ fn print_first(place: usize, tasks: usize, processors: u32, ticks: u32) {
     let mut at = console::put(&mut line, 0, b"0 ");
     at = console::put_number(&mut line, at, place as u64);
     at = console::put(&mut line, at, b" read: ");
-    at = put_counted(&mut line, at, tasks as u64, b" task");
+    at = wording::put_counted(&mut line, at, tasks as u64, b" task");
     at = console::put(&mut line, at, b", ");
-    at = put_counted(&mut line, at, processors as u64, b" processor");
+    at = wording::put_counted(&mut line, at, processors as u64, b" processor");
     at = console::put(&mut line, at, b", cycle ");
     at = console::put_number(&mut line, at, ticks as u64);
     at = console::put(&mut line, at, b"\n");
@@ -184,11 +142,7 @@ fn main() {
     let outcome = loaded.outcome;
     let set = loaded.set;
     match outcome {
-        Outcome::Refused(r) => print_refusal(
-            reader::number_of(outcome),
-            reader::evidence_of(outcome),
-            r,
-        ),
+        Outcome::Refused(r) => print_refusal(r),
         Outcome::At(place) => print_set(place, set),
     }
 }
