@@ -10,3 +10,5 @@ pub mod Tables
 pub mod StepLaws
 pub mod SetLaws
 pub mod Wire
+pub mod Heads
+pub mod HeadLaws

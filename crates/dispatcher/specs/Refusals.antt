@@ -25,18 +25,18 @@ abbrev pub firstState : State
 firstState = record { tick = 0; first = true; done = 0; ran = 0 }
 
 -- "Starting runs the judge: it refuses as the judge does, or gives a state". A refusal hands back the state that came in.
-unfoldable pub onVerdict : Verdict → State → State
-onVerdict verdict.Accepted s = firstState
-onVerdict verdict.BadSet s = s
-onVerdict verdict.WrongLength s = s
-onVerdict (verdict.BadSlot e) s = s
-onVerdict (verdict.Twice t q r) s = s
-onVerdict (verdict.Outside t q) s = s
-onVerdict (verdict.WrongCount i k c) s = s
-onVerdict (verdict.BrokenLink k q n) s = s
+unfoldable pub onVerdict : {A : Type 0} → Verdict → A → A → A
+onVerdict verdict.Accepted a b = a
+onVerdict verdict.BadSet a b = b
+onVerdict verdict.WrongLength a b = b
+onVerdict (verdict.BadSlot e) a b = b
+onVerdict (verdict.Twice t q r) a b = b
+onVerdict (verdict.Outside t q) a b = b
+onVerdict (verdict.WrongCount i k c) a b = b
+onVerdict (verdict.BrokenLink k q n) a b = b
 
 unfoldable pub startedOf : Set → List ℕ → State → Started
-startedOf s slots state = let v : Verdict = verdictOf s slots in record { verdict = v; state = onVerdict v state }
+startedOf s slots state = let v : Verdict = verdictOf s slots in record { verdict = v; state = onVerdict v firstState state }
 
 -- ---- stepping
 -- "State 30: tick not below H, or a mark at or above the task count."

@@ -24,7 +24,7 @@ use Rattle.dispatcher.specs.declared.Answer.the-variants as answer
 use Rattle.dispatcher.specs.declared.Stepped.{Stepped}
 use Rattle.dispatcher.specs.Refusals.{startedOf, byCases, stepped, steppedOf, leftOf}
 use Rattle.dispatcher.specs.Outcome.{Outcome}
-use Rattle.dispatcher.specs.Tables.{startedBy, Of, Lent}
+use Rattle.dispatcher.specs.Tables.{startedBy, Of, Timed, Lent}
 
 -- the cycle of a sound set
 bare-fits : (u : Tasks) → cycle u ≤ 6000 → jobs u ≤ 2048 → cycleFits (onlyPeriods (u .periods) (u .count)) ≡ true
@@ -60,7 +60,7 @@ module _ {s : Set} {m h : ℕ} (f : Found s m h) where
   pub tables-of : Of s m h (s .tasks .count) (s .tasks .periods) (s .tasks .offsets)
   tables-of = record { sound = f .sound; processors = sym (f .processors); ticks = sym (f .ticks); count = refl; periods = refl; offsets = refl }
 
-  narrow : m ≤ 8
+  pub narrow : m ≤ 8
   narrow = rw (f .processors) (facts .few-processors)
 
   short : h ≤ 6000
@@ -69,18 +69,20 @@ module _ {s : Set} {m h : ℕ} (f : Found s m h) where
   pub few-slots : {w : ℕ} → w ≡ h → m * w ≤ 48000
   few-slots e = rw e (mul-le-mul narrow short)
 
+  pub timed-of : Timed (s .tasks .count) h (s .tasks .periods) (s .tasks .offsets)
+  timed-of =
+      record {
+        few = facts .few-tasks;
+        short = short;
+        some-period = facts .some-period;
+        low-offset = λ i l. rw (f .ticks) (lt-of-lt-of-le (facts .offset-low i l) (le-of-dvd (facts .some-cycle) (facts .divides i l)));
+      }
+
   pub lent-of : {w : ℕ} (slots out : List ℕ) → w ≡ h → length slots ≡ m * w → length out ≡ m → Lent m h (s .tasks .count) (s .tasks .periods) (s .tasks .offsets) slots out
   lent-of slots out e a b =
       record {
-        timed =
-            record {
-              few = facts .few-tasks;
-              short = short;
-              some-period = facts .some-period;
-              low-offset = λ i l. rw (f .ticks) (lt-of-lt-of-le (facts .offset-low i l) (le-of-dvd (facts .some-cycle) (facts .divides i l)));
-            };
-        narrow = narrow;
-        long = a ∙ ap (λ (x : ℕ). m * x) e;
+        timed = timed-of;
+        planned = record { few = facts .few-tasks; short = short; narrow = narrow; long = a ∙ ap (λ (x : ℕ). m * x) e };
         room = b;
       }
 

@@ -1,6 +1,7 @@
 // The dispatcher, which plays an accepted plan tick by tick.
 use judge::Verdict;
 use kinds::TaskSet;
+use reader::Head;
 ghost use mathlib.Core.Path.{_≡_};
 ghost use mathlib.Core.Bool.{true, false, _&&_, _||_, not};
 ghost use Prim.Native.Nat.{ℕ, _+_, _*_, _-_, _/_, _%_, _^_, _<_, _≤_};
@@ -15,7 +16,9 @@ ghost use Rattle.dispatcher.specs.Steps.{byteOf, ranOf};
 ghost use Rattle.dispatcher.specs.Refusals.{highSlot, firstState, startedOf, stepped};
 ghost use Rattle.dispatcher.specs.Bytes.{bytesOf, stateOf, unclear, number};
 ghost use Rattle.dispatcher.specs.Outcome.{Outcome, writtenOf};
-ghost use Rattle.dispatcher.specs.Tables.{startedBy, afterOf, unfit, Timed, Lent, OutcomeOn, timesOf, onlyOffsets, onlyCount, rowAt, keeps, Played};
+ghost use Rattle.dispatcher.specs.Heads.{firstBytes, begun, begunOf, stateIn, left, nextBytes, leftAfter, LeftOn, AnsweredOn};
+ghost use Rattle.dispatcher.specs.HeadLaws.{lengthsFit};
+ghost use Rattle.dispatcher.specs.Tables.{startedBy, afterOf, unfit, Timed, Planned, Lent, answerOn, OutcomeOn, timesOf, onlyOffsets, onlyCount, rowAt, keeps, Played};
 
 // Where the dispatcher stands: the tick of the cycle that comes next, whether the first cycle lasts, which tasks are done and which ran last.
 pub struct State {
@@ -357,6 +360,25 @@ impl State {
         self.after(h, done, shown)
     }
 
+    // What the step on the tables of a sound set answers, for a plan of the right length.
+    fn answer_on(self, m: usize, h: u32, n: usize, plan: &[u8], report: u64) -> Answer
+        requires { ⌜ Planned m h n (now plan) ⌝ }
+        ensures { λ r. ⌜ r ≡ answerOn m h n (now (plan .entry)) self report ⌝ }
+    {
+        if self.is_impossible(h, n) {
+            return Answer::BadState;
+        }
+        if is_over(report, n) {
+            return Answer::BadReport;
+        }
+        let at = wide(self.tick) * m;
+        let q = first_high(plan, at, m, n);
+        if q < m {
+            return Answer::BadSlot(at + q);
+        }
+        Answer::Shown
+    }
+
     // The step on the tables of a sound set, with a plan and an output of the right lengths.
     fn step_tables(
         self,
@@ -372,21 +394,14 @@ impl State {
         requires { ⌜ Lent m h n (now period) (now offset) (now plan) (now out) ⌝ }
         ensures { λ r. ⌜ OutcomeOn m h n (now (period .entry)) (now (offset .entry)) (now (plan .entry)) self report (now (out .entry)) r (now (out .exit)) ⌝ }
     {
-        if self.is_impossible(h, n) {
-            return self.refused(Answer::BadState);
-        }
-        if is_over(report, n) {
-            return self.refused(Answer::BadReport);
-        }
-        let at = wide(self.tick) * m;
-        let q = first_high(plan, at, m, n);
-        if q < m {
-            let place = at + q;
-            return self.refused(Answer::BadSlot(place));
-        }
-        Stepped {
-            answer: Answer::Shown,
-            state: self.play(m, h, n, period, offset, plan, at, report, out),
+        let answer = self.answer_on(m, h, n, plan, report);
+        match answer {
+            Answer::Shown => {
+                let at = wide(self.tick) * m;
+                let state = self.play(m, h, n, period, offset, plan, at, report, out);
+                Stepped { answer, state }
+            }
+            _ => self.refused(answer),
         }
     }
 
@@ -459,6 +474,209 @@ impl State {
             first: byte_in(bytes, 4) == 1,
             done: number_in(bytes, 5, 8),
             ran: number_in(bytes, 13, 8),
+        }
+    }
+
+    // The state that bytes stand for: one that is possible in no cycle where the byte of the first cycle is neither 0 nor 1.
+    fn of_bytes(bytes: &[u8]) -> State
+        ensures { λ r. ⌜ r ≡ stateIn (now (bytes .entry)) ⌝ }
+    {
+        if State::is_clear(bytes) {
+            return State::read(bytes);
+        }
+        State {
+            tick: 4294967295,
+            first: true,
+            done: 0,
+            ran: 0,
+        }
+    }
+}
+
+// The verdict of a start for C: the judge's, but for a state of another length than 21 bytes, which is 11.
+pub fn start_verdict(tasks: &[u8], plan: &[u8], state: &[u8]) -> Verdict
+    ensures { λ r. ⌜ r ≡ begunOf (now (tasks .entry)) (now (plan .entry)) (now (state .entry)) .verdict ⌝ }
+{
+    if state.len() == State::BYTES {
+        return judge::judge_head(tasks, plan);
+    }
+    let taking = reader::take_head(tasks);
+    if taking.fits {
+        return Verdict::WrongLength;
+    }
+    Verdict::BadSet
+}
+
+// Writes a new state where the verdict accepts the plan.
+fn begin(verdict: Verdict, state: &mut [u8])
+    ensures { λ r. ⌜ now (state .exit) ≡ firstBytes verdict (now (state .entry)) ⌝ }
+{
+    match verdict {
+        Verdict::Accepted => State::new().write(state),
+        _ => {}
+    }
+}
+
+// The judge's verdict for C, on tasks as the head of a file; where the plan is accepted, the first state's bytes are written, else none.
+pub fn start_head(tasks: &[u8], plan: &[u8], state: &mut [u8]) -> Verdict
+    ensures { λ r. ⌜ begun r (now (state .exit)) ≡ begunOf (now (tasks .entry)) (now (plan .entry)) (now (state .entry)) ⌝ }
+{
+    let verdict = start_verdict(tasks, plan, state);
+    begin(verdict, state);
+    verdict
+}
+
+// Whether plan, output and state have the lengths that a step asks for.
+fn lengths_fit(m: usize, h: u32, plan: usize, out: usize, state: usize) -> bool
+    requires { ⌜ (m ≤ 8) × (h ≤ 6000) ⌝ }
+    ensures { λ b. ⌜ b ≡ lengthsFit m h plan out state ⌝ }
+{
+    if plan != m * wide(h) {
+        return false;
+    }
+    if out != m {
+        return false;
+    }
+    state == State::BYTES
+}
+
+// The answer; where the tick is shown, the next state's bytes are written.
+fn keep(r: Stepped, bytes: &mut [u8]) -> Answer
+    requires { ⌜ length (now bytes) ≡ 21 ⌝ }
+    ensures { λ a. ⌜ (a ≡ r .answer) × (now (bytes .exit) ≡ nextBytes r (now (bytes .entry))) ⌝ }
+{
+    let answer = r.answer;
+    let state = r.state;
+    match answer {
+        Answer::Shown => {
+            state.write(bytes);
+            answer
+        }
+        _ => answer,
+    }
+}
+
+// The step from the state that bytes stand for, on the tables of a sound set.
+fn step_lent(
+    m: usize,
+    h: u32,
+    n: usize,
+    period: &[u32; 64],
+    offset: &[u32; 64],
+    plan: &[u8],
+    report: u64,
+    state: &mut [u8],
+    out: &mut [u8],
+) -> Answer
+    requires { ⌜ (Timed n h (now period) (now offset)) × (m ≤ 8) ⌝ }
+    ensures { λ r. ⌜ LeftOn m h n (now (period .entry)) (now (offset .entry)) (now (plan .entry)) report (now (state .entry)) (now (out .entry)) (left r (now (state .exit)) (now (out .exit))) ⌝ }
+{
+    if !lengths_fit(m, h, plan.len(), out.len(), state.len()) {
+        return Answer::WrongLength;
+    }
+    let s = State::of_bytes(state);
+    let stepped = s.step_tables(m, h, n, period, offset, plan, report, out);
+    keep(stepped, state)
+}
+
+// What that step answers.
+fn answer_lent(
+    m: usize,
+    h: u32,
+    n: usize,
+    plan: &[u8],
+    report: u64,
+    state: &[u8],
+    out: &[u8],
+) -> Answer
+    requires { ⌜ (n ≤ 64) × (h ≤ 6000) × (m ≤ 8) ⌝ }
+    ensures { λ r. ⌜ AnsweredOn m h n (now (plan .entry)) report (now (state .entry)) (now (out .entry)) r ⌝ }
+{
+    if !lengths_fit(m, h, plan.len(), out.len(), state.len()) {
+        return Answer::WrongLength;
+    }
+    let s = State::of_bytes(state);
+    s.answer_on(m, h, n, plan, report)
+}
+
+// The step for C, on tasks as the head of a file, from and to the 21 bytes of the state; a refusal leaves them and the output. It copies no set.
+pub fn step_head(tasks: &[u8], plan: &[u8], report: u64, state: &mut [u8], out: &mut [u8]) -> Answer
+    ensures { λ r. ⌜ left r (now (state .exit)) (now (out .exit)) ≡ leftAfter (now (tasks .entry)) (now (plan .entry)) report (now (state .entry)) (now (out .entry)) ⌝ }
+{
+    let mut period = [0u32; 64];
+    let mut running = [0u32; 64];
+    let mut offset = [0u32; 64];
+    let mut deadline = [0u32; 64];
+    let mut from = [0u32; 64];
+    let mut to = [0u32; 64];
+    let mut pairs = [0u32; 64];
+    let mut first = [0u16; 1024];
+    let mut second = [0u16; 1024];
+    match reader::read_head(
+        tasks,
+        &mut period,
+        &mut running,
+        &mut offset,
+        &mut deadline,
+        &mut from,
+        &mut to,
+        &mut pairs,
+        &mut first,
+        &mut second,
+    ) {
+        Head::Refused(_) => Answer::BadSet,
+        Head::Of(f, at) => {
+            if at != tasks.len() {
+                return Answer::BadSet;
+            }
+            let m = wide(f.processors);
+            step_lent(
+                m,
+                f.ticks,
+                f.tasks,
+                &period,
+                &offset,
+                plan,
+                report,
+                state,
+                out,
+            )
+        }
+    }
+}
+
+// What that step answers; nothing is written.
+pub fn step_answer(tasks: &[u8], plan: &[u8], report: u64, state: &[u8], out: &[u8]) -> Answer
+    ensures { λ r. ⌜ r ≡ leftAfter (now (tasks .entry)) (now (plan .entry)) report (now (state .entry)) (now (out .entry)) .answer ⌝ }
+{
+    let mut period = [0u32; 64];
+    let mut running = [0u32; 64];
+    let mut offset = [0u32; 64];
+    let mut deadline = [0u32; 64];
+    let mut from = [0u32; 64];
+    let mut to = [0u32; 64];
+    let mut pairs = [0u32; 64];
+    let mut first = [0u16; 1024];
+    let mut second = [0u16; 1024];
+    match reader::read_head(
+        tasks,
+        &mut period,
+        &mut running,
+        &mut offset,
+        &mut deadline,
+        &mut from,
+        &mut to,
+        &mut pairs,
+        &mut first,
+        &mut second,
+    ) {
+        Head::Refused(_) => Answer::BadSet,
+        Head::Of(f, at) => {
+            if at != tasks.len() {
+                return Answer::BadSet;
+            }
+            let m = wide(f.processors);
+            answer_lent(m, f.ticks, f.tasks, plan, report, state, out)
         }
     }
 }

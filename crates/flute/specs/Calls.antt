@@ -15,8 +15,10 @@ use Rattle.reader.specs.Answers.{refusalEvidence, numberOf, evidenceOf}
 use Rattle.reader.specs.declared.Taking.{Taking}
 use Rattle.reader.specs.Files.{readOf, takenOf}
 use Rattle.judge.specs.declared.Verdict.{Verdict}
-use Rattle.judge.specs.declared.Verdict.the-variants as verdict
-use Rattle.judge.specs.Judgement.{verdictOf}
+use Rattle.judge.specs.Answers as judgeAnswers
+use Rattle.dispatcher.specs.declared.Answer.{Answer}
+use Rattle.dispatcher.specs.Answers as stepAnswers
+use Rattle.dispatcher.specs.Heads.{Begun, begun, Left, left}
 use Rattle.screen.specs.declared.Finding.{Finding}
 use Rattle.screen.specs.declared.Finding.the-variants as finding
 use Rattle.screen.specs.Findings.{findingOf}
@@ -32,15 +34,36 @@ readNumber file = numberOf (readOf file .outcome)
 unfoldable pub readEvidence : List ℕ → ℕ → ℕ
 readEvidence file which = evidenceIn (evidenceOf (readOf file .outcome)) which
 
--- ---- "The C side passes tasks and m as the bytes of a file from the edition to the last pair; bytes that the reader would refuse, or bytes left over,
--- give 10."
--- flute_judge
-unfoldable pub judged : List ℕ → List ℕ → Verdict
-judged tasks plan = pick (takenOf tasks .fits) (verdictOf (view (takenOf tasks .set)) plan) verdict.BadSet
-
--- flute_screen
+-- ---- flute_screen: "The C side passes tasks and m as the bytes of a file from the edition to the last pair; bytes that the reader would refuse, or bytes
+-- left over, give 10."
 unfoldable pub screened : List ℕ → Finding
 screened tasks = pick (takenOf tasks .fits) (findingOf (view (takenOf tasks .set))) finding.BadSet
+
+-- ---- flute_start: the verdict's number, and what is left in the state's bytes
+pub record Started (b : Begun) (r : ℕ) (state : List ℕ) : Type 0 where
+  pub number : r ≡ judgeAnswers.numberOf (b .verdict)
+  pub kept : state ≡ b .state
+
+pub started : {b : Begun} {v : Verdict} {r : ℕ} {state : List ℕ} → begun v state ≡ b → r ≡ judgeAnswers.numberOf v → Started b r state
+started e n =
+    record {
+      number = n ∙ ap (λ (x : Begun). judgeAnswers.numberOf (x .verdict)) e;
+      kept = ap (λ (x : Begun). x .state) e;
+    }
+
+-- ---- flute_step: the answer's number, and what is left in the state's bytes and in the output
+pub record Stepped (l : Left) (r : ℕ) (state out : List ℕ) : Type 0 where
+  pub number : r ≡ stepAnswers.numberOf (l .answer)
+  pub kept : state ≡ l .state
+  pub shown : out ≡ l .out
+
+pub stepped : {l : Left} {a : Answer} {r : ℕ} {state out : List ℕ} → left a state out ≡ l → r ≡ stepAnswers.numberOf a → Stepped l r state out
+stepped e n =
+    record {
+      number = n ∙ ap (λ (x : Left). stepAnswers.numberOf (x .answer)) e;
+      kept = ap (λ (x : Left). x .state) e;
+      shown = ap (λ (x : Left). x .out) e;
+    }
 
 -- the reader's evidence is one number
 one-place : (r : Refusal) → refusalEvidence r ≡ getD (refusalEvidence r) 0 0 ∷ []
@@ -72,14 +95,6 @@ read-evidence file which {l} e q x r =
     ∙ ap (λ (y : ℕ). getD (y ∷ []) which 0) q
     ∙ ap (λ (ys : List ℕ). getD ys which 0) (sym (one-evidence (l .outcome)))
     ∙ ap (λ (m : Loaded). getD (evidenceOf (m .outcome)) which 0) e)
-
-pub judged-taken : (tasks plan : List ℕ) {t : Taking} {v : Verdict} → t ≡ takenOf tasks → t .fits ≡ true → v ≡ verdictOf (view (t .set)) plan → v ≡ judged tasks plan
-unfolding judged
-judged-taken tasks plan e f q = q ∙ rw (← e, f)
-
-pub judged-not : (tasks plan : List ℕ) {t : Taking} → t ≡ takenOf tasks → t .fits ≡ false → verdict.BadSet ≡ judged tasks plan
-unfolding judged
-judged-not tasks plan e f = rw (← e, f)
 
 pub screened-taken : (tasks : List ℕ) {t : Taking} {f : Finding} → t ≡ takenOf tasks → t .fits ≡ true → f ≡ findingOf (view (t .set)) → f ≡ screened tasks
 unfolding screened

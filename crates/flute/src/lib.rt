@@ -3,8 +3,10 @@ ghost use mathlib.Core.Path.{_≡_};
 ghost use Prim.Native.Nat.{_%_};
 ghost use Rattle.judge.specs.Answers as judgeAnswers;
 ghost use Rattle.screen.specs.Answers as screenAnswers;
-ghost use Rattle.flute.specs.Calls.{evidenceIn, readNumber, readEvidence, judged, screened};
-use judge::Verdict;
+ghost use Rattle.judge.specs.Heads.{judgedOf};
+ghost use Rattle.dispatcher.specs.Answers as stepAnswers;
+ghost use Rattle.dispatcher.specs.Heads.{begunOf, leftAfter};
+ghost use Rattle.flute.specs.Calls.{evidenceIn, readNumber, readEvidence, screened, Started, Stepped};
 use screen::Finding;
 
 // Evidence as C has it: in 32 bits.
@@ -33,30 +35,62 @@ pub extern "C" fn flute_read_evidence(file: &[u8], which: u32) -> u32
     narrow(evidence::one_of(which, place))
 }
 
-// The judge, on tasks as a file's head.
-fn judge_head(tasks: &[u8], plan: &[u8]) -> Verdict
-    ensures { λ r. ⌜ r ≡ judged (now (tasks .entry)) (now (plan .entry)) ⌝ }
-{
-    let taking = reader::take_head(tasks);
-    if taking.fits {
-        let set = taking.set;
-        return judge::judge(set, plan);
-    }
-    Verdict::BadSet
-}
-
 #[no_mangle]
 pub extern "C" fn flute_judge(tasks: &[u8], plan: &[u8]) -> u32
-    ensures { λ r. ⌜ r ≡ judgeAnswers.numberOf (judged (now (tasks .entry)) (now (plan .entry))) ⌝ }
+    ensures { λ r. ⌜ r ≡ judgeAnswers.numberOf (judgedOf (now (tasks .entry)) (now (plan .entry))) ⌝ }
 {
-    judge::number_of(judge_head(tasks, plan))
+    judge::number_of(judge::judge_head(tasks, plan))
 }
 
 #[no_mangle]
 pub extern "C" fn flute_judge_evidence(tasks: &[u8], plan: &[u8], which: u32) -> u32
-    ensures { λ r. ⌜ r ≡ evidenceIn (judgeAnswers.evidenceOf (judged (now (tasks .entry)) (now (plan .entry)))) which ⌝ }
+    ensures { λ r. ⌜ r ≡ evidenceIn (judgeAnswers.evidenceOf (judgedOf (now (tasks .entry)) (now (plan .entry)))) which ⌝ }
 {
-    narrow(judge::evidence_of(judge_head(tasks, plan), which))
+    narrow(judge::evidence_of(judge::judge_head(tasks, plan), which))
+}
+
+#[no_mangle]
+pub extern "C" fn flute_start(tasks: &[u8], plan: &[u8], state: &mut [u8]) -> u32
+    ensures { λ r. ⌜ Started (begunOf (now (tasks .entry)) (now (plan .entry)) (now (state .entry))) r (now (state .exit)) ⌝ }
+{
+    judge::number_of(dispatcher::start_head(tasks, plan, state))
+}
+
+#[no_mangle]
+pub extern "C" fn flute_start_evidence(tasks: &[u8], plan: &[u8], state: &[u8], which: u32) -> u32
+    ensures { λ r. ⌜ r ≡ evidenceIn (judgeAnswers.evidenceOf (begunOf (now (tasks .entry)) (now (plan .entry)) (now (state .entry)) .verdict)) which ⌝ }
+{
+    narrow(judge::evidence_of(dispatcher::start_verdict(tasks, plan, state), which))
+}
+
+#[no_mangle]
+pub extern "C" fn flute_step(
+    tasks: &[u8],
+    plan: &[u8],
+    report: u64,
+    state: &mut [u8],
+    out: &mut [u8],
+) -> u32
+    ensures { λ r. ⌜ Stepped (leftAfter (now (tasks .entry)) (now (plan .entry)) report (now (state .entry)) (now (out .entry))) r (now (state .exit)) (now (out .exit)) ⌝ }
+{
+    dispatcher::number_of(dispatcher::step_head(tasks, plan, report, state, out))
+}
+
+#[no_mangle]
+pub extern "C" fn flute_step_evidence(
+    tasks: &[u8],
+    plan: &[u8],
+    report: u64,
+    state: &[u8],
+    out: &[u8],
+    which: u32,
+) -> u32
+    ensures { λ r. ⌜ r ≡ evidenceIn (stepAnswers.evidenceOf (leftAfter (now (tasks .entry)) (now (plan .entry)) report (now (state .entry)) (now (out .entry)) .answer)) which ⌝ }
+{
+    narrow(dispatcher::evidence_of(
+        dispatcher::step_answer(tasks, plan, report, state, out),
+        which,
+    ))
 }
 
 // The screen, on tasks as a file's head.

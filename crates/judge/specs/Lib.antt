@@ -17,3 +17,4 @@ pub mod Asked
 pub mod Linked
 pub mod Ways
 pub mod Order
+pub mod Heads

@@ -1,11 +1,12 @@
 -- The verdict by its ways out: what is left of the chain of rules once those before are kept.
 use mathlib.Core.Path.{_≡_, refl, sym, ap, ap₂, _∙_}
-use mathlib.Core.Bool.{Bool, true, false}
+use mathlib.Core.Bool.{Bool, true, false, not}
 use mathlib.Core.List.{List}
 use mathlib.Core.Logic.{_⊎_, inl, inr}
 use Prim.Native.Nat.{ℕ, _+_, _*_, _/_, _<_, _≤_}
 use native.Mathlib.Nat.{div-le-self, mul-le-mul}
 use native.Mathlib.Omega.{arith}
+use lib.Dec.{eqb}
 use lib.ListN.{getD, length}
 use borrow.Author.Tests.{eq-eqb, ne-eqb}
 use Rattle.vocabulary.specs.Test.{pick, clash}
@@ -54,15 +55,6 @@ module _ (s : Set) (slots : List ℕ) where
   unfolding verdictOf
   bad-set e = rw e
 
-  module _ (e : sound s ≡ true) where
-    pub wrong-length : (length slots ≡ s .processors * cycle (s .tasks) → ⊥) → verdict.WrongLength ≡ verdictOf s slots
-    unfolding verdictOf
-    wrong-length h = rw (e, ne-eqb (length slots) (s .processors * cycle (s .tasks)) h)
-
-    pub right-length : length slots ≡ s .processors * cycle (s .tasks) → slotsVerdict (s .tasks) (s .patterns) (planOf s slots) ≡ verdictOf s slots
-    unfolding verdictOf slotsVerdict rowsVerdict countsVerdict linksVerdict highAt
-    right-length h = rw (e, eq-eqb (length slots) (s .processors * cycle (s .tasks)) h)
-
 -- The code finds the cycle of a sound set.
 pub cycle-found : (s : Set) → Sound s → cycleOf (s .tasks .periods) (s .tasks .count) .ticks ≡ cycle (s .tasks)
 unfolding cycle jobs jobsBefore jobsOf
@@ -72,35 +64,54 @@ cycle-found s f =
     let fit : all (λ i. holds periods (getD ps i 0)) n ≡ true = all-from (λ i. holds periods (getD ps i 0)) n (λ i l. holds-yes 1 6001 (getD ps i 0) (f .some-period i l) (omega (arith, f .low-period i l))) in
     ap (λ c. c .ticks) (sym (cycle-some ps n {h = cycle (onlyPeriods ps n)} {j = jobs (onlyPeriods ps n)} (f .few-tasks) fit refl (f .low-cycle) refl (f .few-jobs)))
 
--- The same with the numbers that the code has: m processors, h ticks a cycle, and x the same as h.
-module _ (s : Set) (slots : List ℕ) (m h x : ℕ) (e : sound s ≡ true) (em : m ≡ s .processors) (eh : h ≡ cycleOf (s .tasks .periods) (s .tasks .count) .ticks) (ex : x ≡ h) where
-  f : Sound s
-  f = sound-facts s e
+-- Rule 11 and what is behind it, for m processors and a cycle of h ticks.
+unfoldable pub lengthVerdict : Tasks → Patterns → ℕ → ℕ → List ℕ → Verdict
+lengthVerdict u v m h slots = pick (not (eqb (length slots) (m * h))) verdict.WrongLength (slotsVerdict u v (plan slots m h))
 
-  is-cycle : h ≡ cycle (s .tasks)
-  is-cycle = eh ∙ cycle-found s f
+-- Tables of a set that is sound under some edition, with its processors and its cycle.
+pub record Held (u : Tasks) (v : Patterns) (m h : ℕ) : Type 0 where
+  pub edition : ℕ
+  pub is-sound : sound (record { edition = edition; processors = m; tasks = u; patterns = v }) ≡ true
+  pub ticks : h ≡ cycle u
+
+pub set-held : (s : Set) (h : ℕ) → sound s ≡ true → h ≡ cycleOf (s .tasks .periods) (s .tasks .count) .ticks → Held (s .tasks) (s .patterns) (s .processors) h
+set-held s h e c = record { edition = s .edition; is-sound = e; ticks = c ∙ cycle-found s (sound-facts s e) }
+
+pub held-verdict : (s : Set) (slots : List ℕ) (h : ℕ) → sound s ≡ true → h ≡ cycle (s .tasks) → lengthVerdict (s .tasks) (s .patterns) (s .processors) h slots ≡ verdictOf s slots
+unfolding lengthVerdict verdictOf slotsVerdict rowsVerdict countsVerdict linksVerdict highAt
+held-verdict s slots h e c = rw (e, c)
+
+-- The same with the numbers that the code has: w is m, and x is h.
+module _ (u : Tasks) (v : Patterns) (m h : ℕ) (slots : List ℕ) (w x : ℕ) (held : Held u v m h) (ew : w ≡ m) (ex : x ≡ h) where
+  abbrev held-set : Set
+  held-set = record { edition = held .edition; processors = m; tasks = u; patterns = v }
+
+  f : Sound held-set
+  f = sound-facts held-set (held .is-sound)
 
   -- The product fits.
-  pub few-places : m * x ≤ 48000
-  few-places = mul-le-mul {n₁ = m} {m₁ = x} {n₂ = 8} {m₂ = 6000} (omega (arith, em, f .few-processors)) (omega (arith, is-cycle, ex, f .low-cycle))
+  pub few-places : w * x ≤ 48000
+  few-places = mul-le-mul {n₁ = w} {m₁ = x} {n₂ = 8} {m₂ = 6000} (omega (arith, ew, f .few-processors)) (omega (arith, held .ticks, ex, f .low-cycle))
 
-  product : m * x ≡ s .processors * cycle (s .tasks)
-  product = ap₂ (λ (a b : ℕ). a * b) em (ex ∙ is-cycle)
+  product : w * x ≡ m * h
+  product = ap₂ (λ (a b : ℕ). a * b) ew ex
 
-  pub other-length : (length slots ≡ m * x → ⊥) → verdict.WrongLength ≡ verdictOf s slots
-  other-length n = wrong-length s slots e (λ q. n (q ∙ sym product))
+  pub other-length : (length slots ≡ w * x → ⊥) → verdict.WrongLength ≡ lengthVerdict u v m h slots
+  unfolding lengthVerdict
+  other-length n = rw (ne-eqb (length slots) (m * h) (λ q. n (q ∙ sym product)))
 
-  pub asked-set : length slots ≡ m * x → Asked (s .tasks) (s .patterns) (plan slots m h)
+  pub asked-set : length slots ≡ w * x → Asked u v (plan slots w h)
   asked-set q =
       record {
-        edition = s .edition;
-        sound = rw em f;
-        ticks = is-cycle;
-        long = q ∙ ap (λ (y : ℕ). m * y) ex;
+        edition = held .edition;
+        sound = rw ew f;
+        ticks = held .ticks;
+        long = q ∙ ap (λ (y : ℕ). w * y) ex;
       }
 
-  pub judged : length slots ≡ m * x → slotsVerdict (s .tasks) (s .patterns) (plan slots m h) ≡ verdictOf s slots
-  judged q = rw (em, is-cycle) (right-length s slots e (q ∙ product))
+  pub judged : length slots ≡ w * x → slotsVerdict u v (plan slots w h) ≡ lengthVerdict u v m h slots
+  unfolding lengthVerdict
+  judged q = rw (ew, eq-eqb (length slots) (m * h) (q ∙ product))
 
 -- ---- 12
 module _ (u : Tasks) (v : Patterns) (p : Plan) (e : ℕ) (q : e ≡ least (high (p .slots) (u .count)) (length (p .slots))) where

@@ -12,8 +12,10 @@ ghost use Rattle.judge.specs.Answers.{numberOf, evidenceOf};
 ghost use Rattle.judge.specs.Judgement.{verdictOf};
 ghost use Rattle.judge.specs.Keys.{timesOf, Fit};
 ghost use Rattle.judge.specs.Asked.{Asked};
-ghost use Rattle.judge.specs.Ways.{misplacedVerdict, rowsVerdict, slotsVerdict};
+ghost use Rattle.judge.specs.Ways.{misplacedVerdict, rowsVerdict, slotsVerdict, lengthVerdict, Held};
+ghost use Rattle.judge.specs.Heads.{judgedOf};
 use kinds::TaskSet;
+use reader::Head;
 
 mod counts;
 mod high;
@@ -189,6 +191,48 @@ fn judge_tables(
     )
 }
 
+// Rules 11 to 23, over the tables of a sound set and its cycle.
+fn judge_lent(
+    slots: &[u8],
+    processors: u32,
+    h: u32,
+    n: usize,
+    period: &[u32; 64],
+    running: &[u32; 64],
+    offset: &[u32; 64],
+    deadline: &[u32; 64],
+    patterns: usize,
+    from: &[u32; 64],
+    to: &[u32; 64],
+    pairs: &[u32; 64],
+    first: &[u16; 1024],
+    second: &[u16; 1024],
+) -> Verdict
+    requires { ⌜ Held (tasksOf n (now period) (now running) (now offset) (now deadline)) (patternsOf patterns (now from) (now to) (now pairs) (now first) (now second)) processors h ⌝ }
+    ensures { λ r. ⌜ r ≡ lengthVerdict (tasksOf n (now (period .entry)) (now (running .entry)) (now (offset .entry)) (now (deadline .entry))) (patternsOf patterns (now (from .entry)) (now (to .entry)) (now (pairs .entry)) (now (first .entry)) (now (second .entry))) processors h (now (slots .entry)) ⌝ }
+{
+    let m = index(processors);
+    if slots.len() != m * index(h) {
+        return Verdict::WrongLength;
+    }
+    judge_tables(
+        slots,
+        m,
+        h,
+        n,
+        period,
+        running,
+        offset,
+        deadline,
+        patterns,
+        from,
+        to,
+        pairs,
+        first,
+        second,
+    )
+}
+
 // The verdict on a plan for a task set.
 pub fn judge(set: TaskSet, plan: &[u8]) -> Verdict
     ensures { λ r. ⌜ r ≡ verdictOf (view set) (now (plan .entry)) ⌝ }
@@ -198,12 +242,6 @@ pub fn judge(set: TaskSet, plan: &[u8]) -> Verdict
     }
     let n = set.tasks;
     let period = set.period;
-    let cycle = kinds::cycle_of(&period, n);
-    let h = cycle.ticks;
-    let m = index(set.processors);
-    if plan.len() != m * index(h) {
-        return Verdict::WrongLength;
-    }
     let running = set.running;
     let offset = set.offset;
     let deadline = set.deadline;
@@ -212,10 +250,11 @@ pub fn judge(set: TaskSet, plan: &[u8]) -> Verdict
     let pairs = set.pairs;
     let first = set.first;
     let second = set.second;
-    judge_tables(
+    let cycle = kinds::cycle_of(&period, n);
+    judge_lent(
         plan,
-        m,
-        h,
+        set.processors,
+        cycle.ticks,
         n,
         &period,
         &running,
@@ -228,6 +267,56 @@ pub fn judge(set: TaskSet, plan: &[u8]) -> Verdict
         &first,
         &second,
     )
+}
+
+// The verdict on a set that is given as the head of a file; bytes that are no head, or more than one, are 10. It copies no set.
+pub fn judge_head(tasks: &[u8], plan: &[u8]) -> Verdict
+    ensures { λ r. ⌜ r ≡ judgedOf (now (tasks .entry)) (now (plan .entry)) ⌝ }
+{
+    let mut period = [0u32; 64];
+    let mut running = [0u32; 64];
+    let mut offset = [0u32; 64];
+    let mut deadline = [0u32; 64];
+    let mut from = [0u32; 64];
+    let mut to = [0u32; 64];
+    let mut pairs = [0u32; 64];
+    let mut first = [0u16; 1024];
+    let mut second = [0u16; 1024];
+    match reader::read_head(
+        tasks,
+        &mut period,
+        &mut running,
+        &mut offset,
+        &mut deadline,
+        &mut from,
+        &mut to,
+        &mut pairs,
+        &mut first,
+        &mut second,
+    ) {
+        Head::Refused(_) => Verdict::BadSet,
+        Head::Of(f, at) => {
+            if at != tasks.len() {
+                return Verdict::BadSet;
+            }
+            judge_lent(
+                plan,
+                f.processors,
+                f.ticks,
+                f.tasks,
+                &period,
+                &running,
+                &offset,
+                &deadline,
+                f.patterns,
+                &from,
+                &to,
+                &pairs,
+                &first,
+                &second,
+            )
+        }
+    }
 }
 
 // The number of document 01 for a verdict: 0, 10, 11, 12, or 20 to 23.

@@ -1,12 +1,12 @@
 -- What the reader promises of what it lets through: the set keeps rule 10, its entries beyond the counts are 0, and the slots are those of one cycle.
 use mathlib.Core.Bool.{Bool, true, false}
-use mathlib.Core.Path.{_≡_, refl, sym, subst}
+use mathlib.Core.Path.{_≡_, refl, sym, ap, subst}
 use mathlib.Core.List.{List}
 use Prim.Native.Nat.{ℕ, zero, suc, _+_, _*_, _<_, _≤_}
 use mathlib.Core.Logic.{⊎-elim}
 use native.Mathlib.Nat.{mul-pos, eq-or-lt-of-le}
 use native.Mathlib.Omega.{arith}
-use borrow.Author.Tests.{leb-false, ltb-false}
+use borrow.Author.Tests.{leb-false, ltb-false, eq-eqb, ne-eqb}
 use lib.Dec.{leb, ltb, eqb}
 use lib.ListN.{length, getD}
 use Rattle.vocabulary.specs.Test.{pick, missed, both, clash}
@@ -23,9 +23,10 @@ use Rattle.reader.specs.declared.Shape.{Shape}
 use Rattle.reader.specs.declared.Head.{Head}
 use Rattle.reader.specs.declared.Head.the-variants as head
 use Rattle.reader.specs.declared.Taking.{Taking}
-use Rattle.reader.specs.Files.{slotsFrom, loaded, onSlots, onHead, readOf, notTaken, takeHead, takenOf}
+use Rattle.reader.specs.Tables.{TaskTables, PatternTables}
+use Rattle.reader.specs.Files.{HeadRead, headRead, setOf, slotsFrom, loaded, onSlots, onHead, readOf, notTaken, takeHead, takenOf}
 use Rattle.reader.specs.Went.{refused-at}
-use Rattle.reader.specs.HeadLaws.{headOf, setIn, head-sound}
+use Rattle.reader.specs.HeadLaws.{headOf, setIn, HeadSound, head-sound}
 
 -- ---- the slots
 pub record SlotsRead (s : List ℕ) (k at n : ℕ) : Type 0 where
@@ -134,7 +135,7 @@ read-blank s = by (headOf s .outcome) refl
     by (head.Refused r) a = blank-none 0 0
 
 -- ---- the head alone
-abbrev taking : TaskSet → Taking
+abbrev pub taking : TaskSet → Taking
 taking t = record { fits = true; set = t }
 
 pub taken-sound : (s : List ℕ) → takenOf s .fits ≡ true → sound (view (takenOf s .set)) ≡ true
@@ -162,3 +163,23 @@ taken-blank s = by (headOf s .outcome) refl
     by : (o : Head) → headOf s .outcome ≡ o → Blank (takeHead s o (headOf s .tasks) (headOf s .patterns) .set)
     by (head.Of f at) a = length-by f at a (eqb at (length s))
     by (head.Refused r) a = blank-none 0 0
+
+-- ---- for a caller with tables of its own: a head that ends where the bytes do, and one that does not
+pub record WholeHead (s : List ℕ) (f : Shape) (t : TaskTables) (v : PatternTables) : Type 0 where
+  pub taken : takenOf s ≡ taking (setOf f t v)
+  pub is-sound : sound (view (setOf f t v)) ≡ true
+  pub ticks : f .ticks ≡ cycle (view (setOf f t v) .tasks)
+
+module _ (s : List ℕ) (t : TaskTables) (v : PatternTables) {o : Head} {f : Shape} {at : ℕ} (read : headRead o t v ≡ headOf s) (here : o ≡ head.Of f at) where
+  headed : headRead (head.Of f at) t v ≡ headOf s
+  headed = rw here at read
+
+  pub whole-head : at ≡ length s → WholeHead s f t v
+  unfolding takenOf takeHead
+  whole-head e =
+      let h : HeadSound (headRead (head.Of f at) t v) f = subst (λ (r : HeadRead). HeadSound r f) (sym headed) (head-sound s f at (ap (λ (r : HeadRead). r .outcome) (sym headed))) in
+      record { taken = rw (← headed, eq-eqb at (length s) e); is-sound = h .is-sound; ticks = h .ticks }
+
+  pub left-over : (at ≡ length s → ⊥) → takenOf s ≡ notTaken
+  unfolding takenOf takeHead
+  left-over n = rw (← headed, ne-eqb at (length s) n)

@@ -2,7 +2,7 @@
 ghost use mathlib.Core.Path.{_≡_};
 ghost use mathlib.Core.Bool.{true};
 ghost use Prim.Native.Nat.{_+_, _*_, _<_, _≤_};
-ghost use lib.ListN.{length, getD};
+ghost use lib.ListN.{length, getD, replicate};
 ghost use Rattle.kinds.specs.Limits.{range, noKey};
 ghost use Rattle.kinds.specs.Cycle.{periodsFit};
 ghost use Rattle.reader.specs.Answers.{refusalNumber, refusalEvidence, numberOf, evidenceOf};
@@ -515,8 +515,9 @@ fn take_none() -> Taking
     Taking { fits: false, set }
 }
 
-// The head of a file, from the edition to the last pair, into the tables that are lent.
-fn read_head(
+// The head of a file, from the edition to the last pair, into the tables that are lent, for a caller that puts no set together. The periods are
+// cleared first: a table of this size is all that the cycle asks of its caller.
+pub fn read_head(
     file: &[u8],
     period: &mut [u32; 64],
     running: &mut [u32; 64],
@@ -528,14 +529,14 @@ fn read_head(
     first: &mut [u16; 1024],
     second: &mut [u16; 1024],
 ) -> Head
-    requires { ⌜ length (now period) ≡ 64 ⌝ }
     ensures { λ r. ⌜ headRead r
         (taskTables (now (period .exit)) (now (running .exit)) (now (offset .exit)) (now (deadline .exit)))
         (patternTables (now (from .exit)) (now (to .exit)) (now (pairs .exit)) (now (first .exit)) (now (second .exit)))
         ≡ headFrom (now (file .entry))
-        (taskTables (now (period .entry)) (now (running .entry)) (now (offset .entry)) (now (deadline .entry)))
+        (taskTables (replicate 64 0) (now (running .entry)) (now (offset .entry)) (now (deadline .entry)))
         (patternTables (now (from .entry)) (now (to .entry)) (now (pairs .entry)) (now (first .entry)) (now (second .entry))) ⌝ }
 {
+    *period = [0u32; 64];
     match read_opening(file) {
         Opening::Refused(r) => Head::Refused(r),
         Opening::Of(e, n, m, p0) => {

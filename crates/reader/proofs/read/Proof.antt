@@ -1,11 +1,11 @@
-use mathlib.Core.Path.{_∙_, refl}
+use mathlib.Core.Path.{_∙_}
 use Rattle.reader.specs.Turns.{read-refused, read-closed}
 use borrow.Author.Needs.{needs}
 use Rattle.reader.proofs.read.Statement.{statement}
 use Rattle.reader.proofs.read.Tie as tie
 
 read-head-requires : tie.Need-read-head-requires
-read-head-requires c κs = refl
+read-head-requires c κs = search needs
 
 enum-known-r : tie.Need-enum-known-r
 enum-known-r c = search needs

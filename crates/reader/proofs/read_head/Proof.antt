@@ -1,3 +1,4 @@
+use mathlib.Core.Path.{refl}
 use Rattle.reader.specs.Bounds.{opening-low, middle-low}
 use Rattle.reader.specs.Filled.{periods-fit}
 use Rattle.reader.specs.Turns.{by-opening, by-tasks, by-middle, by-patterns}
@@ -27,7 +28,7 @@ enum-known-p1 : tie.Need-enum-known-p1
 enum-known-p1 c = search needs
 
 read-middle-requires : tie.Need-read-middle-requires
-read-middle-requires c κs = periods-fit _ _ _ _ _ _ (opening-low _ _ _ _ _ (c .before .before .before .before .before .before .before .before .before .before .before .before .read-opening .ensures) (c .before .before .before .before .before .before .before .before .before .before .e .given .1)) (c .before .before .before .before .before .before .before .before .before .before .before .before .before .before .pre) (c .before .before .before .before .read-tasks .ensures) (c .before .before .p1 .given .1)
+read-middle-requires c κs = periods-fit _ _ _ _ _ _ (opening-low _ _ _ _ _ (c .before .before .before .before .before .before .before .before .before .before .before .before .read-opening .ensures) (c .before .before .before .before .before .before .before .before .before .before .e .given .1)) refl (c .before .before .before .before .read-tasks .ensures) (c .before .before .p1 .given .1)
 
 enum-known-r-3 : tie.Need-enum-known-r-3
 enum-known-r-3 c = search needs

@@ -1,11 +1,11 @@
-use mathlib.Core.Path.{_∙_, refl}
+use mathlib.Core.Path.{_∙_}
 use Rattle.reader.specs.Turns.{taken-refused, taken-closed}
 use borrow.Author.Needs.{needs}
 use Rattle.reader.proofs.take_head.Statement.{statement}
 use Rattle.reader.proofs.take_head.Tie as tie
 
 read-head-requires : tie.Need-read-head-requires
-read-head-requires c κs = refl
+read-head-requires c κs = search needs
 
 enum-told : tie.Need-enum-told
 enum-told c = search needs
