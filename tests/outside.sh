@@ -41,16 +41,31 @@ done
 count 'archive, largest plans' "$out/largest"
 count 'archive against plain C, random cases' "$out/random" 50000
 
+# played PROGRAM NAME: what it prints of NAME.in on standard input, or of the files NAME.in and NAME.reports where there are reports.
+played() {
+    if [ -e "$2.reports" ]; then target/bin/"$1" "$2.in" "$2.reports" 2>&1; else target/bin/"$1" <"$2.in" 2>&1; fi
+}
+
 # Stored runs of the programs: tests/runs/PROGRAM/NAME.in is what it reads, NAME.out what it prints.
 for input in tests/runs/*/*.in; do
     [ -e "$input" ] || continue
     program=$(basename "$(dirname "$input")")
-    if target/bin/"$program" <"$input" 2>&1 | cmp -s - "${input%.in}.out"; then
+    if played "$program" "${input%.in}" | cmp -s - "${input%.in}.out"; then
         passed=$((passed + 1))
     else
         failed=$((failed + 1))
         echo "$program on $input prints something else than is stored"
     fi
 done
+
+# The entry for people runs a program on a file, and ends with 2 where the arguments are wrong.
+./flute judge >/dev/null 2>&1
+wrong=$?
+if [ "$wrong" -eq 2 ] && ./flute judge examples/case_a.plan 2>/dev/null | cmp -s - tests/runs/flute_judge/case_a.out; then
+    passed=$((passed + 1))
+else
+    failed=$((failed + 1))
+    echo './flute judge does not judge, or takes wrong arguments'
+fi
 echo "$passed passed, $failed failed"
 [ "$failed" -eq 0 ]

@@ -13,25 +13,20 @@ fn print_refusal(r: Refusal) {
 
 fn print_first(place: usize, tasks: usize, processors: u32, ticks: u32) {
     let mut line = io::buffer();
-    let mut at = console::put(&mut line, 0, b"0 ");
-    at = console::put_number(&mut line, at, place as u64);
-    at = console::put(&mut line, at, b" read: ");
-    at = wording::put_counted(&mut line, at, tasks as u64, b" task");
-    at = console::put(&mut line, at, b", ");
-    at = wording::put_counted(&mut line, at, processors as u64, b" processor");
-    at = console::put(&mut line, at, b", cycle ");
-    at = console::put_number(&mut line, at, ticks as u64);
+    let at = wording::put_read(&mut line, 0, place, tasks, processors, ticks);
+    io::write_all(STDOUT_FILENO, &line[..at]);
+}
+
+fn print_names() {
+    let mut line = io::buffer();
+    let mut at = wording::put_task_names(&mut line, 0);
     at = console::put(&mut line, at, b"\n");
     io::write_all(STDOUT_FILENO, &line[..at]);
 }
 
 fn print_task(i: usize, t: u32, c: u32, o: u32, d: u32) {
     let mut line = io::buffer();
-    let mut at = console::put_column(&mut line, 0, i as u64, 5);
-    at = console::put_column(&mut line, at, t as u64, 8);
-    at = console::put_column(&mut line, at, c as u64, 9);
-    at = console::put_column(&mut line, at, o as u64, 8);
-    at = console::put_column(&mut line, at, d as u64, 10);
+    let mut at = wording::put_task(&mut line, 0, i, t, c, o, d);
     at = console::put(&mut line, at, b"\n");
     io::write_all(STDOUT_FILENO, &line[..at]);
 }
@@ -43,7 +38,7 @@ fn print_tasks(
     offset: &[u32; 64],
     deadline: &[u32; 64],
 ) {
-    io::write_all(STDOUT_FILENO, b" task  period  running  offset  deadline\n");
+    print_names();
     let mut i: usize = 0;
     while i < n {
         if TaskSet::MOST_TASKS <= i {

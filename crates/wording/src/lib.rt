@@ -1,4 +1,4 @@
-// What the programs say: numbers and words in a lent line, and the reader's refusals.
+// What the programs say: numbers and words in a lent line, what was read, and the reader's refusals.
 ghost use Rattle.io.specs.Counts.{Counts};
 use reader::Outcome;
 use reader::Refusal;
@@ -29,6 +29,44 @@ pub fn put_counted(out: &mut [u8], at: usize, n: u64, word: &[u8]) -> usize
         return then;
     }
     console::put(out, then, b"s")
+}
+
+// How many tasks and processors were read.
+fn put_counts(out: &mut [u8], at: usize, tasks: usize, m: u32) -> usize
+    ensures { λ r. ⌜ Counts r (now (out .exit)) ⌝ }
+{
+    let mut to = console::put(out, at, b" read: ");
+    to = put_counted(out, to, tasks as u64, b" task");
+    to = console::put(out, to, b", ");
+    put_counted(out, to, m as u64, b" processor")
+}
+
+// The line for a file that was read: number, evidence (the place of the first slot), words.
+pub fn put_read(out: &mut [u8], at: usize, place: usize, tasks: usize, m: u32, h: u32) -> usize
+    ensures { λ r. ⌜ Counts r (now (out .exit)) ⌝ }
+{
+    let mut to = put_named(out, at, b"0 ", place as u64);
+    to = put_counts(out, to, tasks, m);
+    to = put_named(out, to, b", cycle ", h as u64);
+    console::put(out, to, b"\n")
+}
+
+// The names of a task's columns.
+pub fn put_task_names(out: &mut [u8], at: usize) -> usize
+    ensures { λ r. ⌜ Counts r (now (out .exit)) ⌝ }
+{
+    console::put(out, at, b" task  period  running  offset  deadline")
+}
+
+// A task's number and its T, C, O and D in columns.
+pub fn put_task(out: &mut [u8], at: usize, i: usize, t: u32, c: u32, o: u32, d: u32) -> usize
+    ensures { λ r. ⌜ Counts r (now (out .exit)) ⌝ }
+{
+    let mut to = console::put_column(out, at, i as u64, 5);
+    to = console::put_column(out, to, t as u64, 8);
+    to = console::put_column(out, to, c as u64, 9);
+    to = console::put_column(out, to, o as u64, 8);
+    console::put_column(out, to, d as u64, 10)
 }
 
 // What a refusal of the reader means.

@@ -9,11 +9,8 @@ Inv-loop n period running offset deadline i₀ i = i ≤ n
 abbrev μ-loop : tie.MeasureT-loop
 μ-loop n period running offset deadline i₀ i = n - i
 
-slice-aggregate-write-all : tie.Need-slice-aggregate-write-all Inv-loop μ-loop
-slice-aggregate-write-all c = search needs
-
-write-all-requires : tie.Need-write-all-requires Inv-loop μ-loop
-write-all-requires c κs = search needs
+print-names-requires : tie.Need-print-names-requires Inv-loop μ-loop
+print-names-requires c κs = search needs
 
 loop-holds : tie.Need-loop-holds Inv-loop μ-loop
 loop-holds c = search needs
@@ -66,8 +63,7 @@ print-tasks-spec =
     (tie.spec
     Inv-loop
     μ-loop
-    slice-aggregate-write-all
-    write-all-requires
+    print-names-requires
     loop-holds
     returns
     mul-print-task

@@ -1,0 +1,32 @@
+use native.Mathlib.Nat.{div-le-self}
+use native.Mathlib.Omega.{arith}
+use borrow.Author.Needs.{needs}
+use Rattle.flute_show.proofs.print_block.Statement.{statement}
+use Rattle.flute_show.proofs.print_block.Tie as tie
+
+div-print-ruler : tie.Need-div-print-ruler
+div-print-ruler c = search needs
+
+ticks-in-requires : tie.Need-ticks-in-requires
+ticks-in-requires c κs = search needs
+
+print-ruler-requires : tie.Need-print-ruler-requires
+print-ruler-requires c κs =
+    let a = c .before .before .args in
+    (c .ticks-in .ensures .0, omega (arith, c .ticks-in .ensures .1, div-le-self (a .at) (a .m), c .before .before .pre .1))
+
+print-processors-requires : tie.Need-print-processors-requires
+print-processors-requires c κs = search needs
+
+returns : tie.Need-returns
+returns c = search needs
+
+pub print-block-spec : {M : Type 1} → statement M
+print-block-spec =
+    tie.close
+    (tie.spec
+    div-print-ruler
+    ticks-in-requires
+    print-ruler-requires
+    print-processors-requires
+    returns)
