@@ -150,4 +150,40 @@ static void full(made *f)
     f->count = 64;
     f->jobs = 896;
 }
+
+/* A plan that grows with n tasks, a multiple of 8, and cycle h, a multiple of 600: the tasks of processors 0 to 3 run in the first half of their period, h/10,
+   one after another, and those of processors 4 to 7 in the second half, each after its partner of the first. The last task has period h, and runs once. */
+static void growth(made *f, uint32_t n, uint32_t h)
+{
+    uint32_t t = h / 10, turns = n / 8, c = t / 2 / turns, i, x, q;
+    f->length = 0;
+    put(f, 1);
+    put(f, n);
+    put(f, 8);
+    for (i = 0; i < n; i++) {
+        put(f, i < n - 1 ? t : h);
+        put(f, c);
+        put(f, 0);
+        put(f, i < n - 1 ? t : h);
+    }
+    put(f, n / 2);
+    for (i = 0; i < n; i++)
+        if (i % 8 < 4) {
+            put(f, i);
+            put(f, i + 4);
+            put(f, 1);
+            put(f, 0);
+            put(f, 0);
+        }
+    f->tasks = f->length;
+    for (x = 0; x < h; x++)
+        for (q = 0; q < 8; q++) {
+            uint32_t past = x % t, half = t / 2, at = past % half / c, v = 1 + at * 8 + q;
+            f->bytes[f->length++] = (uint8_t)((past < half) == (q < 4) && at < turns && (v < n || x < t) ? v : 0);
+        }
+    f->processors = 8;
+    f->cycle = h;
+    f->count = n;
+    f->jobs = 10 * (n - 1) + 1;
+}
 #endif

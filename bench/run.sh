@@ -1,8 +1,56 @@
 #!/usr/bin/env bash
-# Builds the benchmark and runs it: times of the archive and of plain C, and their ratio.
+# Prints times, growth, stack, size and what the archive leans on, as a page in Markdown: docs/BENCH.md is such a page.
+#   bench/run.sh > docs/BENCH.md         STAND_IN=1 measures the plain C of bench/ against itself, which shows how far the ratios can be trusted
 set -eu
 cd "$(dirname "$0")/.."
 mkdir -p target/bench
-rt staticlib flute >/dev/null
-gcc -O3 -Wall -Wextra -Wno-unused-function -DNO_BUFFERS bench/bench.c bench/plain.c target/staticlib/libflute.a -o target/bench/bench
-target/bench/bench examples/flight.plan examples/case_a.plan
+[ "${STAND_IN:-0}" = 1 ] || rt staticlib flute >target/bench/build.log 2>&1 || { cat target/bench/build.log; exit 1; }
+. tests/platform.sh
+with="bench/plain.c $archive"
+[ "${STAND_IN:-0}" = 1 ] && lacking='' with=$stand_in
+$cc -O3 $lacking bench/bench.c $with -o target/bench/bench
+
+cat <<PAGE
+# Times, stack and size
+
+Printed by \`bench/run.sh\`. Measured and not proved: another machine has other times. Archive and plain C (\`bench/plain.c\`, the same jobs written from document 01,
+\`gcc -O3\`) are in one program and take turns; a time is the best of 60 short rounds, so that what else the machine did in a round counts little. A ratio below 1 means
+that the archive is faster.
+
+PAGE
+load=$(cut -d ' ' -f 1 /proc/loadavg)
+if [ -z "$run" ]; then
+    echo "This run: x86-64, $(nproc) cores; $load programs ran on them on average in the minute before."
+else
+    echo "This run: x86-64 code in an emulator on $(uname -m), $(nproc) cores, so that only the ratios say something; $load programs ran on average in the minute before."
+fi
+[ -z "$lacking" ] || printf '\nNot in this page: adjust, start and step, which the archive has no call for yet.\n'
+echo
+$run target/bench/bench examples/flight.plan examples/case_a.plan
+[ "${STAND_IN:-0}" = 1 ] && exit
+
+sections=$($size -A "$archive")
+# bytes PATTERN: the bytes of all sections whose name begins so.
+bytes() { printf '%s\n' "$sections" | awk -v p="$1" 'index($1, p) == 1 { n += $2 } END { print n + 0 }'; }
+symbols=$($nm "$archive")
+names() { printf '%s\n' "$symbols" | awk -v kinds="$1" '(NF == 3 && index(kinds, $2)) || (NF == 2 && index(kinds, $1)) { print $NF }' | sort -u | paste -s -d ' '; }
+or_none() { if [ -n "$1" ]; then echo "$1"; else echo none; fi; }
+called=$(printf '%s\n' $(names Uw) | grep -vxF "$(printf '%s\n' $(names T))" | paste -s -d ' ')
+data=$(($(bytes .data) + $(bytes .bss) + $(bytes .tdata) + $(bytes .tbss))) data_names=$(names DdBbCGgSs)
+cat <<PAGE
+
+## Size, and what the archive leans on
+
+| of \`libflute.a\` | |
+|---|---|
+| code, bytes | $(bytes .text) |
+| constants, bytes | $(bytes .rodata) |
+| data that could be written, bytes | $data |
+| names of such data | $(or_none "$data_names") |
+| functions that it calls from elsewhere | $(or_none "$called") |
+| functions that it has for C | $(names T | wc -w) |
+
+PAGE
+if [ "$data" = 0 ] && [ -z "$data_names" ]; then echo 'So it keeps nothing between calls.'; else echo 'SO IT KEEPS SOMETHING BETWEEN CALLS.'; fi
+left=$(printf '%s\n' $called | grep -vxE 'memcpy|memset|memmove|memcmp|bcmp' | paste -s -d ' ')
+if [ -z "$left" ]; then echo 'What it calls copies, fills and compares bytes: it asks for no heap.'; else echo "LOOK AT WHAT IT CALLS: $left"; fi

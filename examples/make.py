@@ -1,7 +1,14 @@
-"""Writes the plan files of this folder: case A of document 01, and the flight application software of source document 003.
+"""Writes the plan files of this folder; each is accepted.
 
-The flight software (its section IV, in units of 5 ms) is laid out by its priorities: at each tick the released job of highest priority runs, the
-adjusted releases being respected, which keeps the precedences.
+case_a.plan      Case A of document 01.
+flight.plan      The flight application software of source document 003 (its section IV, in units of 5 ms), laid out by its priorities: at each tick the
+                 released job of highest priority runs, the adjusted releases being respected, which keeps the precedences.
+example_2.plan   Example 2 of source document 000, which is case C of document 01. Two processors, as in the path that it prints: task 0 wakes at tick 1,
+                 and the window of each of its jobs runs over the end of a cycle.
+example_5.plan   Example 5 of source document 000, simple precedences. Two processors, as in its figure 6.
+example_6.plan   Example 6 of source document 000, precedences between jobs of different periods. Two processors, since it asks for 21 ticks in a cycle of 20;
+                 the plan is ours. Its pair (3, 1) from task 0 to task 1 is outside the range of a pattern, a below p/T0 = 2, so that a file with it is
+                 refused by 6. The file has (1, 0): from job 3 on both say the same, so that a repeated plan keeps both or neither.
 """
 import os
 
@@ -55,6 +62,24 @@ def case_a():
                 [1, 1, 1, 2, 2, 2, 2, 2, 3, 3, 1, 1, 1, 2, 2, 2, 2, 2, 3, 3, 1, 1, 1, 0])
 
 
-for name, content in (('case_a.plan', case_a()), ('flight.plan', flight())):
-    with open(os.path.join(HERE, name), 'wb') as f:
-        f.write(content)
+def example_2():
+    return file(2, [(5, 5, 1, 5), (5, 2, 0, 5), (5, 2, 0, 5)], {}, [1, 2, 1, 2, 1, 3, 1, 3, 1, 0])
+
+
+def example_5():
+    first = [(0, 0)]
+    return file(2, [(6, 1, 0, 6), (6, 2, 0, 6), (6, 2, 1, 6), (6, 1, 1, 6)],
+                {(0, 1): first, (0, 2): first, (0, 3): first, (1, 3): first, (2, 3): first},
+                [1, 0, 2, 3, 2, 3, 4, 0, 0, 0, 0, 0])
+
+
+def example_6():
+    one = [1, 1, 0, 0, 0, 1, 1, 2, 2, 2, 1, 1, 0, 0, 0, 1, 1, 2, 2, 2]
+    two = [0] * 12 + [3] * 7 + [0]
+    return file(2, [(5, 2, 0, 5), (10, 3, 0, 10), (20, 7, 0, 20)], {(0, 1): [(0, 0), (1, 0)], (0, 2): [(2, 0)]},
+                [slot for row in zip(one, two) for slot in row])
+
+
+for plan in (case_a, flight, example_2, example_5, example_6):
+    with open(os.path.join(HERE, plan.__name__ + '.plan'), 'wb') as f:
+        f.write(plan())

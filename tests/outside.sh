@@ -1,19 +1,23 @@
 #!/usr/bin/env bash
-# Tests from outside: the archive is linked into C programs, as an integrator would, which run the vectors. Each line that differs is printed;
-# the last line adds up.
+# Tests from outside: the archive is linked into C programs, as an integrator would, which run the vectors, the largest plans, random cases and the example.
+# Each line that differs is printed; the last line adds up. tests/stand_in.c, in the archive's place, runs the same programs on plain C.
 set -u
 cd "$(dirname "$0")/.." || exit 2
 out=target/outside
 mkdir -p "$out"
 passed=0 failed=0
 
-command -v gcc >/dev/null || { apt-get update && apt-get install -y gcc libc6-dev; }
-rt staticlib flute || { echo '0 passed, 1 failed'; exit 1; }
-gcc -O2 -Wall -Wextra -DNO_BUFFERS tests/vectors.c bench/plain.c target/staticlib/libflute.a -o "$out/vectors" || { echo '0 passed, 1 failed'; exit 1; }
-gcc -O2 -Wall -Wextra -DPLAIN tests/vectors.c bench/plain.c -o "$out/vectors_plain" || { echo '0 passed, 1 failed'; exit 1; }
+give_up() { echo "$1"; echo '0 passed, 1 failed'; exit 1; }
 
-gcc -O2 -Wall -Wextra -Wno-unused-function -DNO_BUFFERS tests/largest.c bench/plain.c target/staticlib/libflute.a -o "$out/largest" || { echo '0 passed, 1 failed'; exit 1; }
-gcc -O2 -Wall -Wextra -DNO_BUFFERS tests/random.c bench/plain.c target/staticlib/libflute.a -o "$out/random" || { echo '0 passed, 1 failed'; exit 1; }
+rt staticlib flute || give_up 'the archive is not built'
+. tests/platform.sh
+[ -z "$lacking" ] || echo 'left out, since the archive has no call that writes a buffer: adjust, start and step through the archive'
+for program in vectors largest random; do
+    $cc -O2 $lacking tests/$program.c bench/plain.c $archive -o "$out/$program" || give_up "$program is not built"
+done
+$cc -O2 tests/vectors.c $stand_in -o "$out/vectors_plain" || give_up 'vectors is not built'
+$cc -O2 examples/executive.c $stand_in -o "$out/executive_plain" || give_up 'the example is not built'
+[ -n "$lacking" ] || $cc -O2 examples/executive.c $archive -o "$out/executive" || give_up 'the example is not built'
 
 # count NAME COMMAND..: run it and take its last line into the sum.
 count() {
@@ -31,41 +35,58 @@ count() {
     echo "$name: $last"
 }
 
-# The peer first: plain C answers every vector, so that the random cases compare with something that is right.
-for kind in reader judge screen adjusted step; do
-    count "plain C, $kind" "$out/vectors_plain" $kind tests/vectors/$kind.txt
-done
-for kind in reader judge screen; do
-    count "archive, $kind" "$out/vectors" $kind tests/vectors/$kind.txt
-done
-count 'archive, largest plans' "$out/largest"
-count 'archive against plain C, random cases' "$out/random" 50000
-
-# played PROGRAM NAME: what it prints of NAME.in on standard input, or of the files NAME.in and NAME.reports where there are reports.
-played() {
-    if [ -e "$2.reports" ]; then target/bin/"$1" "$2.in" "$2.reports" 2>&1; else target/bin/"$1" <"$2.in" 2>&1; fi
+# stored NAME FILE COMMAND..: what the command prints is what the file holds.
+stored() {
+    local name=$1 file=$2
+    shift 2
+    if "$@" 2>&1 | cmp -s - "$file"; then
+        passed=$((passed + 1)) same=$((same + 1))
+    else
+        failed=$((failed + 1)) other=$((other + 1))
+        echo "$name prints something else than $file holds"
+    fi
 }
 
-# Stored runs of the programs: tests/runs/PROGRAM/NAME.in is what it reads, NAME.out what it prints.
+# The peer first: plain C answers every vector, so that the random cases compare with something that is right.
+for kind in reader judge screen adjusted step; do
+    count "plain C, $kind" $run "$out/vectors_plain" $kind tests/vectors/$kind.txt
+done
+kinds='reader judge screen adjusted step'
+[ -z "$lacking" ] || kinds='reader judge screen'
+for kind in $kinds; do
+    count "archive, $kind" $run "$out/vectors" $kind tests/vectors/$kind.txt
+done
+count 'archive, largest plans' $run "$out/largest"
+count 'archive against plain C, random cases' $run "$out/random" 200000
+
+# The example on every plan file: examples/NAME.out is what it prints.
+same=0 other=0
+for plan in examples/*.plan; do
+    stored "plain C, $plan" "${plan%.plan}.out" $run "$out/executive_plain" "$plan"
+    [ -n "$lacking" ] || stored "archive, $plan" "${plan%.plan}.out" $run "$out/executive" "$plan"
+done
+echo "example executive: $same passed, $other failed"
+
+# Stored runs of the programs: tests/runs/PROGRAM/NAME.in is what it reads, NAME.out what it prints; NAME.reports, where it is there, a second file.
+same=0 other=0
 for input in tests/runs/*/*.in; do
     [ -e "$input" ] || continue
     program=$(basename "$(dirname "$input")")
-    if played "$program" "${input%.in}" | cmp -s - "${input%.in}.out"; then
-        passed=$((passed + 1))
+    base=${input%.in}
+    if [ -e "$base.reports" ]; then
+        stored "$program on $input" "$base.out" $run_kit target/bin/"$program" "$input" "$base.reports"
     else
-        failed=$((failed + 1))
-        echo "$program on $input prints something else than is stored"
+        stored "$program on $input" "$base.out" $run_kit target/bin/"$program" <"$input"
     fi
 done
+echo "stored runs of programs: $same passed, $other failed"
 
 # The entry for people runs a program on a file, and ends with 2 where the arguments are wrong.
 ./flute judge >/dev/null 2>&1
 wrong=$?
-if [ "$wrong" -eq 2 ] && ./flute judge examples/case_a.plan 2>/dev/null | cmp -s - tests/runs/flute_judge/case_a.out; then
-    passed=$((passed + 1))
-else
-    failed=$((failed + 1))
-    echo './flute judge does not judge, or takes wrong arguments'
-fi
+same=0 other=0
+[ "$wrong" -eq 2 ] || { failed=$((failed + 1)) other=1; echo './flute takes wrong arguments'; }
+stored './flute judge' tests/runs/flute_judge/case_a.out ./flute judge examples/case_a.plan
+echo "entry for people: $same passed, $other failed"
 echo "$passed passed, $failed failed"
 [ "$failed" -eq 0 ]

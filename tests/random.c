@@ -1,46 +1,72 @@
-/* Random cases: the proved archive against the plain C of bench/, on files that are valid, nearly valid, damaged, and on any lengths, states and
-   reports; with guard bytes around every buffer that is lent, so that a byte written outside shows, and a byte changed by a refusal too.
-   random [CASES [SEED]] */
-#include "../bench/plain.h"
-#include "../include/flute.h"
+/* Random cases: the archive against the plain C of bench/, on files that are valid, nearly valid and damaged, and on any lengths, states and reports. Every
+   buffer is lent under watch (lend.h): nothing outside is touched, what is lent for reading stays, and a refusal or a question for evidence changes nothing.
+   random [CASES [SEED]]         a case is one call with its evidence */
+#define ASKED() watch("a question for evidence", 1)
+static void watch(const char *call, int refused);
 #include "calls.h"
+#include "lend.h"
 #include "make.h"
-#include <stdio.h>
-#include <stdlib.h>
 
-enum { GUARD = 64 };
-static unsigned long cases, wrong;
-static unsigned long by_number[6][64];
-static const char *names[6] = {"read", "screen", "adjust", "judge", "start", "step"};
+enum { READ, SCREEN, ADJUST, JUDGE, START, STEP, KINDS };
+static const char *names[KINDS] = {"read", "screen", "adjust", "judge", "start", "step"};
+/* The numbers that each call can answer, so that one that no case met shows. */
+static const uint8_t possible[KINDS][12] = {{0, 1, 2, 3, 4, 5, 6, 7, 8, 9, 255}, {0, 10, 13, 14, 15, 255}, {0, 10, 11, 13, 255},
+                                            {0, 10, 11, 12, 20, 21, 22, 23, 255}, {0, 10, 11, 12, 20, 21, 22, 23, 255}, {0, 10, 11, 12, 30, 31, 255}};
+static unsigned long cases, wrong, met[KINDS][64];
+static uint64_t began; /* the seed with which this round began: `random 1 SEED` repeats it */
 
-static void differ(const char *what, plain_answer a, plain_answer b)
+static void trouble(const char *call, const char *what)
 {
     if (wrong++ < 20)
-        printf("case %lu, seed state %llx, %s: archive %u %u %u %u, plain C %u %u %u %u\n", cases, (unsigned long long)seed, what, a.number, a.evidence[0],
-               a.evidence[1], a.evidence[2], b.number, b.evidence[0], b.evidence[1], b.evidence[2]);
+        printf("case %lu, seed %llu: %s %s\n", cases, (unsigned long long)began, call, what);
 }
 
-static void compare(int kind, plain_answer a, plain_answer b)
+static void compare(int kind, answer a, plain_answer b)
 {
     cases++;
-    by_number[kind][b.number & 63]++;
-    if (a.number != b.number || memcmp(a.evidence, b.evidence, sizeof a.evidence))
-        differ(names[kind], a, b);
+    met[kind][b.number & 63]++;
+    watch(names[kind], a.number != 0);
+    if (!agrees(a, b) && wrong++ < 20)
+        printf("case %lu, seed %llu, %s: archive %u %u %u %u (past the last %u %u), plain C %u %u %u %u\n", cases, (unsigned long long)began, names[kind],
+               a.number, a.evidence[0], a.evidence[1], a.evidence[2], a.evidence[3], a.evidence[4], b.number, b.evidence[0], b.evidence[1], b.evidence[2]);
 }
 
-/* Changes, cuts or lengthens some bytes. */
-static size_t damage(uint8_t *bytes, size_t n, size_t most)
+static void equal(const char *what, const void *a, const void *b, size_t n)
+{
+    if (memcmp(a, b, n))
+        trouble(what, "left other bytes than plain C");
+}
+
+static int coin(void) { return (int)below(2); }
+
+/* Mostly n; else 0, one less, one more, or anything up to that. */
+static size_t near(size_t n)
+{
+    if (below(12))
+        return n;
+    switch (below(4)) {
+    case 0:
+        return 0;
+    case 1:
+        return n ? n - 1 : 0;
+    case 2:
+        return n + 1;
+    default:
+        return below((uint32_t)n + 2);
+    }
+}
+
+/* Changes, cuts or lengthens some bytes; there is room for four more. */
+static size_t damage(uint8_t *bytes, size_t n)
 {
     uint32_t k = 1 + below(3);
     while (k--)
         switch (below(8)) {
         case 0:
-            if (n)
-                n = below((uint32_t)n);
+            n = below((uint32_t)n);
             break;
         case 1:
-            if (n < most)
-                bytes[n++] = (uint8_t)any();
+            bytes[n++] = (uint8_t)any();
             break;
         case 2:
             if (n)
@@ -48,143 +74,214 @@ static size_t damage(uint8_t *bytes, size_t n, size_t most)
             break;
         default:
             if (n)
-                bytes[below((uint32_t)(below(2) && n > 40 ? 40 : n))] = (uint8_t)below(below(2) ? 4 : 16);
+                bytes[below((uint32_t)(coin() && n > 40 ? 40 : n))] = (uint8_t)below(coin() ? 4 : 16);
         }
     return n;
 }
 
-static void try_read(const made *f, int harm)
+static void try_read(const uint8_t *file, size_t n)
 {
-    static uint8_t bytes[60008];
     static plain_set s;
-    size_t n = f->length;
-    memcpy(bytes, f->bytes, n);
-    if (harm)
-        n = damage(bytes, n, sizeof bytes);
-    compare(0, call_read(bytes, n), plain_read(bytes, n, &s));
+    lent_count = 0;
+    compare(READ, call_read(lend(file, n, coin(), 0), n), plain_read(file, n, &s));
+}
+
+static void try_screen(const uint8_t *tasks, size_t tasks_len)
+{
+    lent_count = 0;
+    compare(SCREEN, call_screen(lend(tasks, tasks_len, coin(), 0), tasks_len), plain_screen(tasks, tasks_len));
+}
+
+static void try_judge(const uint8_t *tasks, size_t tasks_len, const uint8_t *plan, size_t plan_len)
+{
+    const uint8_t *t, *p;
+    lent_count = 0;
+    t = lend(tasks, tasks_len, coin(), 0);
+    p = lend(plan, plan_len, coin(), 0);
+    compare(JUDGE, call_judge(t, tasks_len, p, plan_len), plain_judge(tasks, tasks_len, plan, plan_len));
 }
 
 #ifndef NO_BUFFERS
-/* A buffer between two guards. */
-typedef struct {
-    uint8_t room[GUARD + 16384 + GUARD];
-} fenced;
-
-static uint8_t *inside(fenced *b)
+static void any_bytes(void *to, size_t n)
 {
-    return b->room + GUARD;
-}
-
-static void fence(fenced *b, size_t n)
-{
-    memset(b->room, 0xA5, GUARD);
-    memset(b->room + GUARD + n, 0x5A, GUARD);
-}
-
-static void unharmed(const char *what, const fenced *b, size_t n)
-{
-    size_t k;
-    for (k = 0; k < GUARD; k++)
-        if (b->room[k] != 0xA5 || b->room[GUARD + n + k] != 0x5A) {
-            if (wrong++ < 20)
-                printf("case %lu: %s wrote outside its buffer\n", cases, what);
-            return;
-        }
-}
-
-static void equal(const char *what, const void *a, const void *b, size_t n)
-{
-    if (memcmp(a, b, n) && wrong++ < 20)
-        printf("case %lu: %s left other bytes than plain C\n", cases, what);
+    uint8_t *bytes = to;
+    while (n--)
+        *bytes++ = (uint8_t)any();
 }
 
 static void try_adjust(const uint8_t *tasks, size_t tasks_len, uint32_t jobs)
 {
-    static fenced r1, d1;
-    static int32_t r2[2060], d2[2060];
-    uint32_t nr = below(12) ? jobs : below(jobs + 3), nd = below(12) ? jobs : below(jobs + 3), k;
-    plain_answer a, b;
-    for (k = 0; k < 2060; k++)
-        r2[k] = d2[k] = (int32_t)any();
-    fence(&r1, 4 * nr);
-    fence(&d1, 4 * nd);
-    memcpy(inside(&r1), r2, 4 * nr);
-    memcpy(inside(&d1), d2, 4 * nd);
-    a = call_adjust(tasks, tasks_len, (int32_t *)(void *)inside(&r1), nr, (int32_t *)(void *)inside(&d1), nd);
-    b = plain_adjust(tasks, tasks_len, r2, nr, d2, nd);
-    compare(2, a, b);
-    unharmed("adjust", &r1, 4 * nr);
-    unharmed("adjust", &d1, 4 * nd);
-    equal("adjust", inside(&r1), r2, 4 * nr);
-    equal("adjust", inside(&d1), d2, 4 * nd);
+    static int32_t r2[2064], d2[2064];
+    size_t nr = near(jobs), nd = near(jobs);
+    const uint8_t *t;
+    int32_t *r1, *d1;
+    any_bytes(r2, 4 * nr);
+    any_bytes(d2, 4 * nd);
+    lent_count = 0;
+    t = lend(tasks, tasks_len, coin(), 0);
+    r1 = (int32_t *)(void *)lend(r2, 4 * nr, coin(), 1);
+    d1 = (int32_t *)(void *)lend(d2, 4 * nd, coin(), 1);
+    compare(ADJUST, call_adjust(t, tasks_len, r1, nr, d1, nd), plain_adjust(tasks, tasks_len, r2, nr, d2, nd));
+    equal("adjust", r1, r2, 4 * nr);
+    equal("adjust", d1, d2, 4 * nd);
 }
 
-static void try_steps(const uint8_t *tasks, size_t tasks_len, const uint8_t *plan, size_t plan_len, const made *f)
+/* A word with bits below the task count only, or by chance one higher. */
+static uint64_t marks(const made *f, uint32_t rarely)
 {
-    static fenced s1, o1;
-    uint8_t s2[24], o2[24];
-    uint32_t ns = below(20) ? 21 : below(24), no = below(20) ? f->processors : below(12), k, steps = 1 + below(40);
-    fence(&s1, ns);
-    for (k = 0; k < sizeof s2; k++)
-        s2[k] = (uint8_t)any();
-    memcpy(inside(&s1), s2, ns);
-    compare(4, call_start(tasks, tasks_len, plan, plan_len, inside(&s1), ns), plain_start(tasks, tasks_len, plan, plan_len, s2, ns));
-    unharmed("start", &s1, ns);
-    equal("start", inside(&s1), s2, ns);
-    if (below(4) == 0) { /* a state that no run reaches */
-        uint32_t tick = below(f->cycle + 2);
-        uint64_t mask = f->count == 64 ? ~(uint64_t)0 : ((uint64_t)1 << (f->count + (below(8) == 0))) - 1, done = any() & mask, ran = any() & mask;
-        for (k = 0; k < 4; k++)
-            s2[k] = (uint8_t)(tick >> 8 * k);
-        s2[4] = (uint8_t)below(below(8) ? 2 : 4);
-        for (k = 0; k < 8; k++) {
-            s2[5 + k] = (uint8_t)(done >> 8 * k);
-            s2[13 + k] = (uint8_t)(ran >> 8 * k);
-        }
-        memcpy(inside(&s1), s2, ns);
-    }
-    while (steps--) {
-        uint64_t mask = f->count == 64 ? ~(uint64_t)0 : ((uint64_t)1 << (f->count + (below(30) == 0))) - 1, report = below(3) ? any() & mask : 0;
-        fence(&o1, no);
-        for (k = 0; k < sizeof o2; k++)
-            o2[k] = (uint8_t)any();
-        memcpy(inside(&o1), o2, no);
-        compare(5, call_step(tasks, tasks_len, plan, plan_len, report, inside(&s1), ns, inside(&o1), no),
-                plain_step(tasks, tasks_len, plan, plan_len, report, s2, ns, o2, no));
-        unharmed("step", &s1, ns);
-        unharmed("step", &o1, no);
-        equal("step (state)", inside(&s1), s2, ns);
-        equal("step (output)", inside(&o1), o2, no);
-    }
+    uint32_t n = f->count + (below(rarely) == 0);
+    return any() & (n >= 64 ? ~(uint64_t)0 : ((uint64_t)1 << n) - 1);
 }
 
+/* A state that no run need reach, or that is not possible. */
+static void any_state(const made *f, uint8_t *s)
+{
+    uint32_t tick = below(f->cycle + 2), k;
+    uint64_t done = marks(f, 12), ran = marks(f, 12);
+    if (below(12) == 0) {
+        any_bytes(s, FLUTE_STATE_BYTES);
+        return;
+    }
+    for (k = 0; k < 4; k++)
+        s[k] = (uint8_t)(tick >> 8 * k);
+    s[4] = (uint8_t)below(below(8) ? 2 : 4);
+    for (k = 0; k < 8; k++) {
+        s[5 + k] = (uint8_t)(done >> 8 * k);
+        s[13 + k] = (uint8_t)(ran >> 8 * k);
+    }
+    if (below(12) == 0)
+        s[below(FLUTE_STATE_BYTES)] ^= (uint8_t)(1u << below(8));
+}
+
+static int try_start(const uint8_t *tasks, size_t tasks_len, const uint8_t *plan, size_t plan_len, uint8_t *s2, size_t ns)
+{
+    const uint8_t *t, *p;
+    uint8_t *s1;
+    answer a;
+    lent_count = 0;
+    t = lend(tasks, tasks_len, coin(), 0);
+    p = lend(plan, plan_len, coin(), 0);
+    s1 = lend(s2, ns, coin(), 1);
+    a = call_start(t, tasks_len, p, plan_len, s1, ns);
+    compare(START, a, plain_start(tasks, tasks_len, plan, plan_len, s2, ns));
+    equal("start", s1, s2, ns);
+    return a.number == 0;
+}
+
+static void try_step(const uint8_t *tasks, size_t tasks_len, const uint8_t *plan, size_t plan_len, const made *f, uint8_t *s2, size_t ns, size_t no)
+{
+    uint64_t report = below(3) ? marks(f, 30) : 0;
+    const uint8_t *t, *p;
+    uint8_t *s1, *o1, o2[24];
+    any_bytes(o2, sizeof o2);
+    lent_count = 0;
+    t = lend(tasks, tasks_len, coin(), 0);
+    p = lend(plan, plan_len, coin(), 0);
+    s1 = lend(s2, ns, coin(), 1);
+    o1 = lend(o2, no, coin(), 1);
+    compare(STEP, call_step(t, tasks_len, p, plan_len, report, s1, ns, o1, no), plain_step(tasks, tasks_len, plan, plan_len, report, s2, ns, o2, no));
+    equal("step (state)", s1, s2, ns);
+    equal("step (output)", o1, o2, no);
+}
+
+/* A start, and a run of steps from it or from another state. */
+static void try_run(const uint8_t *tasks, size_t tasks_len, const uint8_t *plan, size_t plan_len, const made *f)
+{
+    uint8_t s2[24];
+    size_t ns = near(FLUTE_STATE_BYTES), no = near(f->processors);
+    uint32_t steps = 1 + below(ns == FLUTE_STATE_BYTES && no == f->processors ? 16 : 2);
+    any_bytes(s2, sizeof s2);
+    if (!try_start(tasks, tasks_len, plan, plan_len, s2, ns) || below(4) == 0)
+        any_state(f, s2);
+    while (steps--)
+        try_step(tasks, tasks_len, plan, plan_len, f, s2, ns, no);
+}
 #endif
+
+/* A set at the limits of jobs, cycle and links: n tasks of one period in turn and one that runs once, 256 jobs of each in a cycle, and links of the first
+   jobs of two tasks. 8 tasks are a job too many, a period of 24 makes the cycle too long, and 17 patterns are 256 links too many. */
+static void make_crowded(made *f)
+{
+    uint32_t n = 6 + below(3), t = below(6) ? 8 + below(3) : 24, patterns = 14 + below(5), i, j, x;
+    size_t count_at;
+    f->length = 0;
+    put(f, 1);
+    put(f, n + 1);
+    put(f, 1);
+    for (i = 0; i <= n; i++) {
+        put(f, i < n ? t : 256 * t);
+        put(f, 1);
+        put(f, 0);
+        put(f, i < n ? t : 256 * t);
+    }
+    count_at = f->length;
+    put(f, 0);
+    for (i = 0, x = 0; i < n; i++)
+        for (j = i + 1; j < n && x < patterns; j++, x++) {
+            put(f, i);
+            put(f, j);
+            put(f, 1);
+            put(f, 0);
+            put(f, 0);
+        }
+    f->bytes[count_at] = (uint8_t)x;
+    f->tasks = f->length;
+    for (x = 0; x < 256 * t; x++)
+        f->bytes[f->length++] = (uint8_t)(x % t < n ? x % t + 1 : x == t - 1 ? n + 1 : 0);
+    f->processors = 1;
+    f->cycle = 256 * t;
+    f->count = n + 1;
+    f->jobs = 256 * n + 1;
+}
 
 static void try_all(const made *f)
 {
-    static uint8_t tasks[60008], plan[48008];
-    size_t tasks_len = f->tasks, plan_len = f->length - f->tasks;
+    static uint8_t file[60008], tasks[60008], plan[48008];
+    size_t file_len = f->length, tasks_len = f->tasks, plan_len = f->length - f->tasks;
+    memcpy(file, f->bytes, file_len);
     memcpy(tasks, f->bytes, tasks_len);
     memcpy(plan, f->bytes + f->tasks, plan_len);
-    switch (below(6)) { /* half of all stay as they were made */
+    tasks[tasks_len] = plan[plan_len] = file[file_len] = (uint8_t)below(3); /* for a length that is one too long */
+    switch (below(8)) { /* half of all stay as they were made */
     case 0:
-        tasks_len = damage(tasks, tasks_len, sizeof tasks);
+        tasks_len = damage(tasks, tasks_len);
         break;
     case 1:
-        plan_len = damage(plan, plan_len, sizeof plan);
+        plan_len = damage(plan, plan_len);
         break;
     case 2:
-        if (plan_len)
-            plan[below((uint32_t)plan_len)] = (uint8_t)below(f->count + 2);
+        plan[below((uint32_t)plan_len)] = (uint8_t)below(f->count + 2);
+        break;
+    case 3:
+        tasks_len = near(tasks_len);
+        plan_len = near(plan_len);
         break;
     }
-    try_read(f, below(3) != 0);
-    compare(1, call_screen(tasks, tasks_len), plain_screen(tasks, tasks_len));
+    file_len = below(3) ? damage(file, file_len) : near(file_len);
+    try_read(file, file_len);
+    try_screen(tasks, tasks_len);
+    try_judge(tasks, tasks_len, plan, plan_len);
 #ifndef NO_BUFFERS
     try_adjust(tasks, tasks_len, f->jobs);
-    try_steps(tasks, tasks_len, plan, plan_len, f);
+    try_run(tasks, tasks_len, plan, plan_len, f);
 #endif
-    compare(3, call_judge(tasks, tasks_len, plan, plan_len), plain_judge(tasks, tasks_len, plan, plan_len));
+}
+
+/* How often each number was met, a line a call. */
+static void tell(void)
+{
+    int k, n;
+    for (k = 0; k < KINDS; k++) {
+        unsigned long all = 0;
+        for (n = 0; n < 64; n++)
+            all += met[k][n];
+        if (!all)
+            continue;
+        printf("%s, %lu calls:", names[k], all);
+        for (n = 0; possible[k][n] != 255; n++)
+            printf("%s %d in %lu", n ? "," : "", possible[k][n], met[k][possible[k][n]]);
+        printf("\n");
+    }
 }
 
 int main(int argc, char **argv)
@@ -192,24 +289,18 @@ int main(int argc, char **argv)
     static const uint32_t tops[] = {1, 2, 4, 6, 12, 24, 30, 60, 120, 360};
     static made f;
     unsigned long most = argc > 1 ? strtoul(argv[1], NULL, 0) : 50000;
-    int k, n;
     seed = argc > 2 ? strtoull(argv[2], NULL, 0) : 20261115;
     printf("seed %llu\n", (unsigned long long)seed);
+    lend_open();
     while (cases < most) {
-        make(&f, tops[below(10)], 1 + below(below(8) ? 6 : 64), 0, below(4) ? 1 + below(12) : 0, below(4) == 0);
+        began = seed;
+        if (below(100) == 0)
+            make_crowded(&f);
+        else
+            make(&f, tops[below(10)], 1 + below(below(8) ? 6 : 64), 0, below(4) ? 1 + below(12) : 0, below(4) == 0);
         try_all(&f);
     }
-    for (k = 0; k < 6; k++) {
-        for (n = 0; n < 64 && !by_number[k][n]; n++)
-            ;
-        if (n == 64)
-            continue;
-        printf("%s:", names[k]);
-        for (n = 0; n < 64; n++)
-            if (by_number[k][n])
-                printf(" %d in %lu", n, by_number[k][n]);
-        printf("\n");
-    }
+    tell();
     printf("%lu passed, %lu failed\n", cases - (wrong < cases ? wrong : cases), wrong);
     return wrong != 0;
 }

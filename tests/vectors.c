@@ -1,4 +1,4 @@
-/* Runs the outside cases of tests/vectors through one side's calls and prints each that differs.
+/* Runs the outside cases of tests/vectors through the archive, or through what is linked in its place, and prints each that differs.
    vectors KIND FILE, with KIND one of reader, judge, screen, adjusted, step. */
 #include "calls.h"
 #include <stdio.h>
@@ -48,22 +48,22 @@ static char *numbers(char *p, long *out, int most, int *n)
     return *p == '|' ? p + 1 : p;
 }
 
-/* The answer is the numbers of the line: the number, its evidence, and nothing past it. */
-static int same(plain_answer r, const long *want, int n)
+/* The answer is the numbers of the line: the number, its evidence, and 0 past the last. */
+static int same(answer r, const long *want, int n)
 {
     int k;
     if (n < 1 || n > 4 || r.number != (uint32_t)want[0])
         return 0;
-    for (k = 0; k < 3; k++)
+    for (k = 0; k < 5; k++)
         if (r.evidence[k] != (k + 1 < n ? (uint32_t)want[k + 1] : 0))
             return 0;
     return 1;
 }
 
-static void show(plain_answer r) { printf("line %d: answered %u %u %u %u\n", number_of_line, r.number, r.evidence[0], r.evidence[1], r.evidence[2]); }
+static void show(answer r) { printf("line %d: answered %u %u %u %u\n", number_of_line, r.number, r.evidence[0], r.evidence[1], r.evidence[2]); }
 
 /* What stands before the equals sign goes through the call, what stands behind it is the answer. */
-static int compare(plain_answer r, char *p)
+static int compare(answer r, char *p)
 {
     long want[5];
     int n;
@@ -103,7 +103,7 @@ static int run_adjusted(char *p)
     static int32_t got_releases[2048], got_deadlines[2048];
     long want[5];
     int n, jobs, jobs2, k;
-    plain_answer r;
+    answer r;
     p = strchr(hex(p, &tasks), '=');
     p = numbers(p + 1, want, 5, &n);
     p = numbers(p, releases, 2048, &jobs);
@@ -141,7 +141,7 @@ static int run_step(char *p)
     long want[5];
     int n;
     uint64_t report;
-    plain_answer r;
+    answer r;
     p = hex(hex(p, &tasks), &plan);
     report = strtoull(p, &p, 10);
     p = hex(hex(p, &state), &out);
