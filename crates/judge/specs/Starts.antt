@@ -1,63 +1,19 @@
 -- The tables before the walk: the number of each task's first job, and the release of each job.
-use mathlib.Core.Path.{_≡_, refl, sym, ap, _∙_}
+use mathlib.Core.Path.{_≡_, sym, ap, _∙_}
 use mathlib.Core.List.{List}
 use mathlib.Core.Logic.{_⊎_, ⊎-elim}
 use Prim.Native.Nat.{ℕ, _+_, _-_, _*_, _/_, _<_, _≤_}
-use native.Mathlib.Nat.{eq-or-lt-of-le, mul-le-mul, le-refl}
+use native.Mathlib.Nat.{eq-or-lt-of-le}
 use native.Mathlib.Omega.{arith}
 use lib.ListN.{getD, length, set, length-set, replicate, length-replicate, getD-replicate}
 use lib.Seq.{getD-set-same, getD-set-other}
 use borrow.Author.Count.{below-more}
+use Rattle.vocabulary.specs.Steps.{Stepped}
 use Rattle.vocabulary.specs.Total.{total, total-none, total-more, total-up}
 use Rattle.kinds.specs.Tasks.{Tasks, period}
 use Rattle.kinds.specs.Cycle.{cycle, jobsOf, jobsBefore, jobs}
 use Rattle.kinds.specs.Jobs.{release, numberOfJob}
 use Rattle.judge.specs.Keys.{Based, Released, Ready}
-
--- ---- one task's jobs
--- k entries of the table xs from b on become o, o + t and so on, and those before b stay.
-pub record Stepped (xs ys : List ℕ) (b k o t : ℕ) : Type 0 where
-  pub long : length ys ≡ length xs
-  pub below : (x : ℕ) → x < b → getD ys x 0 ≡ getD xs x 0
-  pub each : (j : ℕ) → j < k → getD ys (b + j) 0 ≡ o + j * t
-
--- A loop that writes them has come to j, with x to be written next.
-pub record Stepping (xs ys : List ℕ) (b k o t j x : ℕ) : Type 0 where
-  pub within : j ≤ k
-  pub next : x ≡ o + j * t
-  pub done : Stepped xs ys b j o t
-
-pub step-from : (xs : List ℕ) (b k o t : ℕ) → Stepping xs xs b k o t 0 o
-step-from xs b k o t =
-    record {
-      within = omega arith;
-      next = omega arith;
-      done = record { long = refl; below = λ x l. refl; each = λ j l. absurd (omega arith) };
-    }
-
-pub step-on : (xs ys : List ℕ) (b k o t j x : ℕ) → Stepping xs ys b k o t j x → j < k → b + k ≤ length xs → Stepping xs (set ys (b + j) x) b k o t (j + 1) (x + t)
-step-on xs ys b k o t j x w l r =
-    record {
-      within = omega arith;
-      next = omega (arith, w .next);
-      done = record {
-        long = length-set ys (b + j) x ∙ w .done .long;
-        below = λ y h. getD-set-other ys (b + j) y x 0 (λ q. omega arith) ∙ w .done .below y h;
-        each =
-            below-more (λ (i : ℕ). getD (set ys (b + j) x) (b + i) 0 ≡ o + i * t) j
-            (λ i h. getD-set-other ys (b + j) (b + i) x 0 (λ q. omega arith) ∙ w .done .each i h)
-            (getD-set-same ys (b + j) x 0 (omega (arith, w .done .long)) ∙ w .next);
-      };
-    }
-
-pub step-end : (xs ys : List ℕ) (b k o t j x : ℕ) → Stepping xs ys b k o t j x → k ≤ j → Stepped xs ys b k o t
-step-end xs ys b k o t j x w l =
-    record { long = w .done .long; below = w .done .below; each = λ i h. w .done .each i (omega arith) }
-
--- The sums fit.
-pub step-room : (xs ys : List ℕ) (b k o t j x : ℕ) → Stepping xs ys b k o t j x → j < k → o + k * t ≤ 12000 → x + t ≤ 12000
-step-room xs ys b k o t j x w l h =
-    omega (arith, w .next, mul-le-mul {n₁ = j + 1} {m₁ = t} {n₂ = k} {m₂ = t} (omega arith) (le-refl t))
 
 -- ---- all tasks, from their tables of periods and first releases
 -- What the loop asks: no period is 0, and a table holds the jobs.
@@ -98,7 +54,7 @@ module _ (ts os : List ℕ) (h n i a k b d : ℕ) (bs ss : List ℕ) (f : Counta
     omega (arith, f .room i l, ap (λ (x : ℕ). x * getD ts i 0) (ed ∙ ek)),
   )
 
-  pub open-on : (ss′ : List ℕ) → Stepped ss ss′ b d (getD os i 0) (getD ts i 0) → Opened ts os h (i + 1) (a + k) (set bs i a) ss′
+  pub open-on : (ss′ : List ℕ) → Stepped b d (getD os i 0) (getD ts i 0) ss ss′ → Opened ts os h (i + 1) (a + k) (set bs i a) ss′
   unfolding T
   open-on ss′ s =
       record {
@@ -113,11 +69,11 @@ module _ (ts os : List ℕ) (h n i a k b d : ℕ) (bs ss : List ℕ) (f : Counta
       }
     where
       here : (j x : ℕ) → j ≡ i → x < h / getD ts j 0 → getD ss′ (total T j + x) 0 ≡ getD os j 0 + x * getD ts j 0
-      here j x q m = rw (q, ← w .sum, ← eb) (s .each x (omega (arith, ap T q)))
+      here j x q m = rw (q, ← w .sum, ← eb) (s .here x (omega (arith, ap T q)))
 
       there : (j x : ℕ) → j < i → x < h / getD ts j 0 → getD ss′ (total T j + x) 0 ≡ getD os j 0 + x * getD ts j 0
       there j x q m =
-          s .below (total T j + x) (omega (arith, w .sum, total-more T j, total-up T (j + 1) i (omega arith))) ∙ w .starts j x q m
+          s .there (total T j + x) (omega (arith, w .sum, total-more T j, total-up T (j + 1) i (omega arith))) ∙ w .starts j x q m
 
 pub open-end : (ts os : List ℕ) (h n i a : ℕ) (bs ss : List ℕ) → Opened ts os h i a bs ss → i ≤ n → n ≤ i → Opened ts os h n a bs ss
 open-end ts os h n i a bs ss w l m = let e : i ≡ n = omega arith in rw e at w

@@ -2,7 +2,8 @@
 ghost use mathlib.Core.Path.{_≡_};
 ghost use Prim.Native.Nat.{_+_, _*_, _/_, _≤_, _<_};
 ghost use lib.ListN.{length};
-ghost use Rattle.judge.specs.Starts.{Stepped, Countable, Opened};
+ghost use Rattle.vocabulary.specs.Steps.{Stepped};
+ghost use Rattle.judge.specs.Starts.{Countable, Opened};
 use crate::index;
 
 // How many jobs a cycle has of a task of period t.
@@ -16,7 +17,7 @@ pub(crate) fn jobs_of(h: u32, t: u32) -> u32
 // Writes o, o + t, .. to k entries from b on.
 fn fill_steps(starts: &mut [u32; 2048], b: usize, k: usize, o: u32, t: u32)
     requires { ⌜ (length (now starts) ≡ 2048) × (b + k ≤ 2048) × (o + k * t ≤ 12000) ⌝ }
-    ensures { λ r. ⌜ Stepped (now (starts .entry)) (now (starts .exit)) b k o t ⌝ }
+    ensures { λ r. ⌜ Stepped b k o t (now (starts .entry)) (now (starts .exit)) ⌝ }
 {
     let mut x = o;
     let mut j: usize = 0;

@@ -22,7 +22,8 @@ use Rattle.judge.specs.Rules.{breaks}
 use Rattle.laws.specs.Repeat.{slot-mod, slot-next, runs-awake, runs-shown, every-job, past-release}
 use Rattle.laws.specs.Windows.{window-yes, window-facts}
 use Rattle.theorems.specs.Names.{Doubled, Misplaced, Keeps11, Keeps12, Keeps20, Keeps21, Keeps22, Keeps23}
-use Rattle.theorems.specs.LinkLaws.{kept-iff, breaks-again}
+use Rattle.judge.specs.Broken.{kept-iff}
+use Rattle.theorems.specs.LinkLaws.{breaks-again}
 use Rattle.theorems.specs.RuleLaws.{link-search}
 
 -- a slot shows a task where it names it
