@@ -1,6 +1,8 @@
 // What the programs share: the input that they are given, and lines of text made in a lent buffer.
+ghost use mathlib.Core.Path.{_≡_};
 ghost use Prim.Native.Nat.{_≤_};
 ghost use Rattle.io.specs.Counts.{Counts};
+ghost use Rattle.console.specs.Signed.{sizeOf};
 
 // Whether the input could be opened, and how many of its bytes stand at the start of the buffer.
 pub struct Input {
@@ -98,4 +100,38 @@ pub fn put_column(out: &mut [u8], at: usize, x: u64, width: usize) -> usize
     let n = gap(width, k, &blanks);
     let to = put(out, at, &blanks[..n]);
     put(out, to, &digits[..k])
+}
+
+// A number without its sign.
+fn size_of(x: i32) -> u64
+    ensures { λ r. ⌜ r ≡ sizeOf x ⌝ }
+{
+    if x < 0 {
+        return (!x) as u64 + 1;
+    }
+    x as u64
+}
+
+// Puts a signed number there.
+pub fn put_signed(out: &mut [u8], at: usize, x: i32) -> usize
+    ensures { λ r. ⌜ Counts r (now (out .exit)) ⌝ }
+{
+    let size = size_of(x);
+    if x < 0 {
+        let to = put(out, at, b"-");
+        return put_number(out, to, size);
+    }
+    put_number(out, at, size)
+}
+
+// Puts a signed number there, behind as many blanks as make it width wide.
+pub fn put_signed_column(out: &mut [u8], at: usize, x: i32, width: usize) -> usize
+    ensures { λ r. ⌜ Counts r (now (out .exit)) ⌝ }
+{
+    let mut text = [0u8; 20];
+    let k = put_signed(&mut text, 0, x);
+    let blanks = [b' '; 20];
+    let n = gap(width, k, &blanks);
+    let to = put(out, at, &blanks[..n]);
+    put(out, to, &text[..k])
 }

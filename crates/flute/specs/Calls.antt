@@ -10,7 +10,6 @@ use Rattle.reader.specs.declared.Outcome.{Outcome}
 use Rattle.reader.specs.declared.Outcome.the-variants as outcome
 use Rattle.reader.specs.declared.Refusal.{Refusal}
 use Rattle.reader.specs.declared.Refusal.the-variants as refusal
-use Rattle.reader.specs.declared.Loaded.{Loaded}
 use Rattle.reader.specs.Answers.{refusalEvidence, numberOf, evidenceOf}
 use Rattle.reader.specs.declared.Taking.{Taking}
 use Rattle.reader.specs.Files.{readOf, takenOf}
@@ -82,19 +81,19 @@ one-evidence (outcome.At p) = refl
 one-evidence (outcome.Refused r) = one-place r
 
 -- ---- from the calls to the definitions
-pub read-number : (file : List ℕ) {l : Loaded} {n : ℕ} → l ≡ readOf file → n ≡ numberOf (l .outcome) → n ≡ readNumber file
+pub read-number : (file : List ℕ) {o : Outcome} {n : ℕ} → o ≡ readOf file .outcome → n ≡ numberOf o → n ≡ readNumber file
 unfolding readNumber
-read-number file e q = q ∙ ap (λ (l : Loaded). numberOf (l .outcome)) e
+read-number file e q = q ∙ ap numberOf e
 
-pub read-evidence : (file : List ℕ) (which : ℕ) {l : Loaded} {p x r : ℕ} → l ≡ readOf file → p ≡ getD (evidenceOf (l .outcome)) 0 0 → x ≡ getD (p ∷ []) which 0 → r ≡ x % 4294967296 → r ≡ readEvidence file which
+pub read-evidence : (file : List ℕ) (which : ℕ) {o : Outcome} {p x r : ℕ} → o ≡ readOf file .outcome → p ≡ getD (evidenceOf o) 0 0 → x ≡ getD (p ∷ []) which 0 → r ≡ x % 4294967296 → r ≡ readEvidence file which
 unfolding readEvidence
-read-evidence file which {l} e q x r =
+read-evidence file which {o} e q x r =
     r
     ∙ ap (λ (y : ℕ). y % 4294967296)
     (x
     ∙ ap (λ (y : ℕ). getD (y ∷ []) which 0) q
-    ∙ ap (λ (ys : List ℕ). getD ys which 0) (sym (one-evidence (l .outcome)))
-    ∙ ap (λ (m : Loaded). getD (evidenceOf (m .outcome)) which 0) e)
+    ∙ ap (λ (ys : List ℕ). getD ys which 0) (sym (one-evidence o))
+    ∙ ap (λ (o : Outcome). getD (evidenceOf o) which 0) e)
 
 pub screened-taken : (tasks : List ℕ) {t : Taking} {f : Finding} → t ≡ takenOf tasks → t .fits ≡ true → f ≡ findingOf (view (t .set)) → f ≡ screened tasks
 unfolding screened

@@ -9,6 +9,8 @@ ghost use Rattle.dispatcher.specs.Heads.{begunOf, leftAfter};
 ghost use Rattle.flute.specs.Calls.{evidenceIn, readNumber, readEvidence, screened, Started, Stepped};
 use screen::Finding;
 
+mod adjust;
+
 // Evidence as C has it: in 32 bits.
 fn narrow(x: usize) -> u32
     ensures { λ r. ⌜ r ≡ x % 4294967296 ⌝ }
@@ -20,18 +22,14 @@ fn narrow(x: usize) -> u32
 pub extern "C" fn flute_read(file: &[u8]) -> u32
     ensures { λ r. ⌜ r ≡ readNumber (now (file .entry)) ⌝ }
 {
-    let loaded = reader::read(file);
-    let outcome = loaded.outcome;
-    reader::number_of(outcome)
+    reader::number_of(reader::read_outcome(file))
 }
 
 #[no_mangle]
 pub extern "C" fn flute_read_evidence(file: &[u8], which: u32) -> u32
     ensures { λ r. ⌜ r ≡ readEvidence (now (file .entry)) which ⌝ }
 {
-    let loaded = reader::read(file);
-    let outcome = loaded.outcome;
-    let place = reader::evidence_of(outcome);
+    let place = reader::evidence_of(reader::read_outcome(file));
     narrow(evidence::one_of(which, place))
 }
 

@@ -116,6 +116,14 @@ unfoldable pub onSlots : Outcome → Loaded → Loaded
 onSlots (outcome.At q) l = l
 onSlots (outcome.Refused r) l = refused r
 
+-- after a head: the place of the first slot, where m·H slots and the end follow
+unfoldable pub onEnd : Outcome → ℕ → Outcome
+onEnd (outcome.At q) at = outcome.At at
+onEnd (outcome.Refused r) at = outcome.Refused r
+
+abbrev pub endedOf : List ℕ → ℕ → Shape → Outcome
+endedOf s at f = onEnd (slotsFrom s (f .processors * f .ticks) at (f .tasks)) at
+
 -- after a head with the set u: m·H slots, and the end
 abbrev pub closedOf : List ℕ → ℕ → Shape → TaskSet → Loaded
 closedOf s at f u = onSlots (slotsFrom s (f .processors * f .ticks) at (f .tasks)) (loaded (outcome.At at) u)

@@ -29,7 +29,7 @@ use Rattle.reader.specs.declared.Loaded.{Loaded}
 use Rattle.reader.specs.declared.Taking.{Taking}
 use Rattle.reader.specs.declared.Head.{Head}
 use Rattle.reader.specs.declared.Head.the-variants as head
-use Rattle.reader.specs.Files.{openingOf, middleFrom, headRead, onOpening, onTasks, onMiddle, onPatterns, headFrom, slotsFrom, setOf, loaded, refused, onSlots, closedOf, onHead, readOf, notTaken, wholeOf, takeHead, takenOf}
+use Rattle.reader.specs.Files.{openingOf, middleFrom, headRead, onOpening, onTasks, onMiddle, onPatterns, headFrom, slotsFrom, setOf, loaded, refused, onSlots, closedOf, onHead, readOf, notTaken, wholeOf, takeHead, takenOf, onEnd, endedOf}
 
 -- what is left of a count, one turn earlier, and at the end
 left : (n i : ℕ) → i < n → n - i ≡ suc (n - (i + 1))
@@ -164,3 +164,29 @@ pub taken-closed : (s : List ℕ) (t : TaskTables) (v : PatternTables) {o : Head
     → headRead o t v ≡ headFrom s noTaskTables noPatternTables → o ≡ head.Of f at → u ≡ setOf f t v → x ≡ wholeOf at (length s) u → x ≡ takenOf s
 unfolding takenOf takeHead
 taken-closed s t v a b g q = q ∙ rw (g, ← a, b)
+
+-- ---- the answer alone
+pub ended-stopped : (s : List ℕ) (at : ℕ) (f : Shape) {k : ℕ} {q : Outcome} {r : Refusal}
+    → k ≡ f .processors * f .ticks → q ≡ slotsFrom s k at (f .tasks) → q ≡ outcome.Refused r → outcome.Refused r ≡ endedOf s at f
+unfolding onEnd
+ended-stopped s at f c d e = rw (← c, ← d, e)
+
+pub ended-whole : (s : List ℕ) (at : ℕ) (f : Shape) {k p : ℕ} {q : Outcome}
+    → k ≡ f .processors * f .ticks → q ≡ slotsFrom s k at (f .tasks) → q ≡ outcome.At p → outcome.At at ≡ endedOf s at f
+unfolding onEnd
+ended-whole s at f c d e = rw (← c, ← d, e)
+
+pub answer-refused : (s : List ℕ) (t : TaskTables) (v : PatternTables) {o : Head} {r : Refusal}
+    → headRead o t v ≡ headFrom s noTaskTables noPatternTables → o ≡ head.Refused r → outcome.Refused r ≡ readOf s .outcome
+unfolding readOf onHead
+answer-refused s t v a b = rw (← a, b)
+
+ended-is : (o : Outcome) (at : ℕ) (u : TaskSet) → onEnd o at ≡ onSlots o (loaded (outcome.At at) u) .outcome
+unfolding onEnd onSlots
+ended-is (outcome.At q) at u = refl
+ended-is (outcome.Refused r) at u = refl
+
+pub answer-ended : (s : List ℕ) (t : TaskTables) (v : PatternTables) {o : Head} {f : Shape} {at : ℕ} {q : Outcome}
+    → headRead o t v ≡ headFrom s noTaskTables noPatternTables → o ≡ head.Of f at → q ≡ endedOf s at f → q ≡ readOf s .outcome
+unfolding readOf onHead
+answer-ended s t v {f = f} {at = at} a b q = q ∙ ended-is (slotsFrom s (f .processors * f .ticks) at (f .tasks)) at (setOf f t v) ∙ rw (← a, b)

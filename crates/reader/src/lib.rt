@@ -9,7 +9,7 @@ ghost use Rattle.reader.specs.Answers.{refusalNumber, refusalEvidence, n
 ghost use Rattle.reader.specs.Numbers.{numberAt, gotAt};
 ghost use Rattle.reader.specs.Bytes.{secondAt, thirdAt};
 ghost use Rattle.reader.specs.Tables.{taskFrom, tasksFrom, tasksRead, taskTables, twoAt, pairsFrom, pairsRead, pairTables, headingAt, patternsFrom, patternsRead, patternTables};
-ghost use Rattle.reader.specs.Files.{setOf, closedOf, wholeOf, openingOf, middleFrom, headRead, headFrom, slotsFrom, refused, readOf, notTaken, takenOf};
+ghost use Rattle.reader.specs.Files.{setOf, endedOf, closedOf, wholeOf, openingOf, middleFrom, headRead, headFrom, slotsFrom, refused, readOf, notTaken, takenOf};
 ghost use Rattle.reader.specs.Turns.{closing, shapeOf};
 use kinds::Key;
 use kinds::TaskSet;
@@ -601,6 +601,16 @@ fn set_of(
     }
 }
 
+// Where the slots of a file with this head are, or what is refused after the head.
+fn end_file(file: &[u8], at: usize, f: Shape) -> Outcome
+    ensures { λ r. ⌜ r ≡ endedOf (now (file .entry)) at f ⌝ }
+{
+    match read_slots(file, at, slot_count(f.processors, f.ticks), f.tasks) {
+        Outcome::Refused(r) => Outcome::Refused(r),
+        Outcome::At(_) => Outcome::At(at),
+    }
+}
+
 // What the file answers, after its head: the slots, and nothing behind them.
 fn close_file(file: &[u8], at: usize, f: Shape, set: TaskSet) -> Loaded
     ensures { λ r. ⌜ r ≡ closedOf (now (file .entry)) at f set ⌝ }
@@ -665,6 +675,36 @@ pub fn read(file: &[u8]) -> Loaded
             );
             close_file(file, at, f, set)
         }
+    }
+}
+
+// What the file answers, without the set, for a caller that needs no more: it is put together by `read`.
+pub fn read_outcome(file: &[u8]) -> Outcome
+    ensures { λ r. ⌜ r ≡ readOf (now (file .entry)) .outcome ⌝ }
+{
+    let mut period = [0u32; 64];
+    let mut running = [0u32; 64];
+    let mut offset = [0u32; 64];
+    let mut deadline = [0u32; 64];
+    let mut from = [0u32; 64];
+    let mut to = [0u32; 64];
+    let mut pairs = [0u32; 64];
+    let mut first = [0u16; 1024];
+    let mut second = [0u16; 1024];
+    match read_head(
+        file,
+        &mut period,
+        &mut running,
+        &mut offset,
+        &mut deadline,
+        &mut from,
+        &mut to,
+        &mut pairs,
+        &mut first,
+        &mut second,
+    ) {
+        Head::Refused(r) => Outcome::Refused(r),
+        Head::Of(f, at) => end_file(file, at, f),
     }
 }
 

@@ -51,26 +51,27 @@ findingOf s =
     (pick (some (tight u v) n) (finding.TooTight (taskOfJob u y) (jobOfJob u y))
     finding.Nothing)))
 
--- ---- "Adjusted times: 10, 11, 13." "into two lent buffers of signed 32-bit numbers, each of exactly that length"; a refusal writes neither
-unfoldable pub byCases : {A : Type 0} → Set → List ℤ → List ℤ → (Adjusted → A) → A → A
-byCases s releases deadlines refuse write =
+-- ---- "Adjusted times: 10, 11, 13." "into two lent buffers of signed 32-bit numbers, each of exactly that length"; a refusal writes neither. Here p and q
+-- are the lengths of the two buffers.
+unfoldable pub byCases : {A : Type 0} → Set → ℕ → ℕ → (Adjusted → A) → A → A
+byCases s p q refuse write =
     let u : Tasks = s .tasks in
     let v : Patterns = s .patterns in
     let n : ℕ = jobs u in
     let x : ℕ = least (onCycle u v) n in
     pick (not (sound s)) (refuse adjusted.BadSet)
-    (pick (not (eqb (length releases) n) || not (eqb (length deadlines) n)) (refuse adjusted.WrongLength)
+    (pick (not (eqb p n) || not (eqb q n)) (refuse adjusted.WrongLength)
     (pick (some (onCycle u v) n) (refuse (adjusted.Cycle (taskOfJob u x) (jobOfJob u x)))
     write))
 
-unfoldable pub adjustedOf : Set → List ℤ → List ℤ → Adjusted
-adjustedOf s releases deadlines = byCases s releases deadlines (λ a. a) adjusted.Written
+unfoldable pub adjustedOf : Set → ℕ → ℕ → Adjusted
+adjustedOf s p q = byCases s p q (λ a. a) adjusted.Written
 
 -- "Per job of one cycle, ordered by task, then job": what the two buffers hold afterwards
 unfoldable pub releasesLeft : Set → List ℤ → List ℤ → List ℤ
 releasesLeft s releases deadlines =
-    byCases s releases deadlines (λ a. releases) (table (λ x. pos (adjustedRelease (s .tasks) (s .patterns) x)) (jobs (s .tasks)))
+    byCases s (length releases) (length deadlines) (λ a. releases) (table (λ x. pos (adjustedRelease (s .tasks) (s .patterns) x)) (jobs (s .tasks)))
 
 unfoldable pub deadlinesLeft : Set → List ℤ → List ℤ → List ℤ
 deadlinesLeft s releases deadlines =
-    byCases s releases deadlines (λ a. deadlines) (table (adjustedDeadline (s .tasks) (s .patterns)) (jobs (s .tasks)))
+    byCases s (length releases) (length deadlines) (λ a. deadlines) (table (adjustedDeadline (s .tasks) (s .patterns)) (jobs (s .tasks)))

@@ -1,10 +1,9 @@
 -- What the public calls answer, from what their functions told them.
-use mathlib.Core.Path.{_≡_, sym, ap, ap₂, _∙_}
+use mathlib.Core.Path.{_≡_, refl, sym, ap, ap₂, _∙_}
 use mathlib.Core.Bool.{true}
 use mathlib.Core.List.{List}
 use Prim.Native.Nat.{ℕ, _*_, _≤_, _<_}
 use native.Mathlib.Omega.{arith}
-use lib.IntN.{ℤ}
 use lib.ListN.{length, take}
 use Rattle.vocabulary.specs.Least.{least-is}
 use Rattle.vocabulary.specs.Total.{total}
@@ -19,12 +18,12 @@ use Rattle.screen.specs.declared.Job.{Job}
 use Rattle.screen.specs.declared.Finding.the-variants as finding
 use Rattle.screen.specs.declared.Adjusted.the-variants as adjusted
 use Rattle.screen.specs.Network.{network}
-use Rattle.screen.specs.Findings.{onCycle, load, room, findingOf}
+use Rattle.screen.specs.Findings.{onCycle, load, room, findingOf, adjustedOf}
 use Rattle.screen.specs.Order.{lowestCycle, lowestTight, on-cycle, overloaded, too-tight, nothing-found}
 use Rattle.screen.specs.Spread.{Wired, WiredAsked, wired-network, wired-linked}
 use Rattle.screen.specs.Timed.{Straight}
 use Rattle.screen.specs.Named.{cycle-ticks, cycle-jobs, jobAt, bare-job, JobAsked, job-asked, LoadAsked, load-asked, share, load-is, room-is, room-low}
-use Rattle.screen.specs.Written.{Answered, wrong-releases, wrong-deadlines, with-cycle, all-written, releasesOf, deadlinesOf}
+use Rattle.screen.specs.Written.{wrong-releases, wrong-deadlines, with-cycle, without-cycle}
 
 -- h and n are the ticks and the jobs of the cycle of a sound set
 pub record Cycled (s : Set) (h n : ℕ) : Type 0 where
@@ -54,11 +53,11 @@ module _ (s : Set) (h n : ℕ) (k : Cycled s h n) where
   room-fits = room-low s f h (k .ticks)
 
   -- a buffer has the wrong length
-  pub refused-releases : (r d : List ℤ) → (length r ≡ n → ⊥) → Answered s r d adjusted.WrongLength r d
-  refused-releases r d h = wrong-releases s r d (k .passed) (λ q. h (q ∙ sym (k .count)))
+  pub refused-releases : (p q : ℕ) → (p ≡ n → ⊥) → adjusted.WrongLength ≡ adjustedOf s p q
+  refused-releases p q h = wrong-releases s p q (k .passed) (λ e. h (e ∙ sym (k .count)))
 
-  pub refused-deadlines : (r d : List ℤ) → length r ≡ n → (length d ≡ n → ⊥) → Answered s r d adjusted.WrongLength r d
-  refused-deadlines r d e h = wrong-deadlines s r d (k .passed) (e ∙ k .count) (λ q. h (q ∙ sym (k .count)))
+  pub refused-deadlines : (p q : ℕ) → p ≡ n → (q ≡ n → ⊥) → adjusted.WrongLength ≡ adjustedOf s p q
+  refused-deadlines p q ep h = wrong-deadlines s p q (k .passed) (ep ∙ k .count) (λ e. h (e ∙ sym (k .count)))
 
   -- e links stand in the lists a and b
   module _ (e : ℕ) (a b : List ℕ) (w : Wired s e a b) where
@@ -95,17 +94,16 @@ module _ (s : Set) (h n : ℕ) (k : Cycled s h n) where
         found-cycle l =
             ap (λ (y : Job). finding.Cycle (y .task) (y .job)) job-is ∙ sym (on-cycle s (k .passed) (omega (arith, lowest-is, k .count)))
 
-        pub refused-cycle : (r d : List ℤ) → length r ≡ n → length d ≡ n → x < n → Answered s r d (adjusted.Cycle (j .task) (j .job)) r d
-        refused-cycle r d er ed l =
-            rw (ap (λ (y : Job). adjusted.Cycle (y .task) (y .job)) job-is)
-            (with-cycle s r d (k .passed) (er ∙ k .count) (ed ∙ k .count) (omega (arith, lowest-is, k .count)))
+        pub refused-cycle : x < n → adjusted.Cycle (j .task) (j .job) ≡ adjustedOf s n n
+        refused-cycle l =
+            ap (λ (y : Job). adjusted.Cycle (y .task) (y .job)) job-is ∙ with-cycle s n n (k .passed) (k .count) (k .count) (omega (arith, lowest-is, k .count))
 
       module _ (free : n ≤ x) where
         none : jobs (s .tasks) ≤ lowestCycle s
         none = omega (arith, lowest-is, k .count)
 
-        pub written : (r d r′ d′ : List ℤ) → length r ≡ n → length d ≡ n → r′ ≡ releasesOf s → d′ ≡ deadlinesOf s → Answered s r d adjusted.Written r′ d′
-        written r d r′ d′ er ed pr pd = all-written s r d (k .passed) (er ∙ k .count) (ed ∙ k .count) none r′ d′ pr pd
+        pub unrefused : adjusted.Written ≡ adjustedOf s n n
+        unrefused = without-cycle s n n (k .passed) (k .count) (k .count) none
 
         -- p is the load, q the room
         module _ {p q : ℕ} (ep : p ≡ total (share h (s .tasks .periods) (s .tasks .runnings)) (s .tasks .count)) (eq : q ≡ s .processors * h) where
@@ -130,3 +128,8 @@ module _ (s : Set) (h n : ℕ) (k : Cycled s h n) where
 
             pub found-nothing : n ≤ y → finding.Nothing ≡ findingOf s
             found-nothing l = sym (nothing-found s (k .passed) none fits (omega (arith, ey, k .count)))
+
+-- the same, where no job of a sound set lies on a cycle
+pub straight-free : (s : Set) (h n : ℕ) → Cycled s h n → (e : ℕ) (a b : List ℕ) → Wired s e a b → jobs (s .tasks) ≤ lowestCycle s → Straight s h (take e a) (take e b)
+straight-free s h n k e a b w l =
+    straight s h n k e a b w {x = lowest (graphOf (take e a) (take e b) n)} refl (omega (arith, lowest-is s h n k e a b w {x = lowest (graphOf (take e a) (take e b) n)} refl, k .count))

@@ -8,9 +8,9 @@ ghost use Rattle.kinds.specs.Tasks.{view};
 ghost use Rattle.kinds.specs.Cycle.{onlyPeriods};
 ghost use Rattle.kinds.specs.Sound.{sound};
 ghost use Rattle.screen.specs.Answers.{findingNumber, findingEvidence, adjustedNumber, adjustedEvidence};
-ghost use Rattle.screen.specs.Findings.{findingOf};
+ghost use Rattle.screen.specs.Findings.{findingOf, adjustedOf};
 ghost use Rattle.screen.specs.Named.{JobAsked, jobAt, LoadAsked, share};
-ghost use Rattle.screen.specs.Written.{Answered};
+ghost use Rattle.screen.specs.Written.{Answered, Writable, written, releasesOf, deadlinesOf};
 ghost use Rattle.screen.specs.Outcome.{Cycled};
 use kinds::TaskSet;
 
@@ -146,16 +146,10 @@ pub fn screen(set: TaskSet) -> Finding
     find_in(set)
 }
 
-// Adjusted times of a sound set whose jobs each buffer has a place for; 13 leaves both buffers as they are.
-fn adjust_in(
-    set: TaskSet,
-    h: u32,
-    n: usize,
-    releases: &mut [i32],
-    deadlines: &mut [i32],
-) -> Adjusted
-    requires { ⌜ (Cycled (view set) h n) × (length (now releases) ≡ n) × (length (now deadlines) ≡ n) ⌝ }
-    ensures { λ r. ⌜ Answered (view set) (now (releases .entry)) (now (deadlines .entry)) r (now (releases .exit)) (now (deadlines .exit)) ⌝ }
+// What the call for adjusted times answers for a sound set of n jobs, where each buffer has n places.
+fn answer_in(set: TaskSet, h: u32, n: usize) -> Adjusted
+    requires { ⌜ Cycled (view set) h n ⌝ }
+    ensures { λ r. ⌜ r ≡ adjustedOf (view set) n n ⌝ }
 {
     let mut from = [0u16; 4096];
     let mut to = [0u16; 4096];
@@ -166,13 +160,12 @@ fn adjust_in(
         let j = job_at(&period, set.tasks, h, x);
         return Adjusted::Cycle(j.task, j.job);
     }
-    times::write_times(set, h, &from[..e], &to[..e], releases, deadlines);
     Adjusted::Written
 }
 
-// The adjusted release and deadline of each job of one cycle, by task, then job; a refusal, the first of 10, 11 and 13, leaves both buffers as they are.
-pub fn adjust(set: TaskSet, releases: &mut [i32], deadlines: &mut [i32]) -> Adjusted
-    ensures { λ r. ⌜ Answered (view set) (now (releases .entry)) (now (deadlines .entry)) r (now (releases .exit)) (now (deadlines .exit)) ⌝ }
+// What the call for adjusted times answers for buffers of these lengths: the first of 10, 11 and 13 that holds, or that they are written.
+pub fn adjusted_for(set: TaskSet, releases: usize, deadlines: usize) -> Adjusted
+    ensures { λ r. ⌜ r ≡ adjustedOf (view set) releases deadlines ⌝ }
 {
     if !kinds::is_sound(set) {
         return Adjusted::BadSet;
@@ -180,13 +173,49 @@ pub fn adjust(set: TaskSet, releases: &mut [i32], deadlines: &mut [i32]) -> Adju
     let period = set.period;
     let cycle = kinds::cycle_of(&period, set.tasks);
     let n = wide(cycle.jobs);
-    if releases.len() != n {
+    if releases != n {
         return Adjusted::WrongLength;
     }
-    if deadlines.len() != n {
+    if deadlines != n {
         return Adjusted::WrongLength;
     }
-    adjust_in(set, cycle.ticks, n, releases, deadlines)
+    answer_in(set, cycle.ticks, n)
+}
+
+fn is_written(a: Adjusted) -> bool
+    ensures { λ r. ⌜ r ≡ written a ⌝ }
+{
+    match a {
+        Adjusted::Written => true,
+        Adjusted::BadSet => false,
+        Adjusted::WrongLength => false,
+        Adjusted::Cycle(_, _) => false,
+    }
+}
+
+// Adjusted times of a set that is not refused.
+fn write_in(set: TaskSet, releases: &mut [i32], deadlines: &mut [i32])
+    requires { ⌜ Writable (view set) (length (now releases)) (length (now deadlines)) ⌝ }
+    ensures { λ r. ⌜ (now (releases .exit) ≡ releasesOf (view set)) × (now (deadlines .exit) ≡ deadlinesOf (view set)) ⌝ }
+{
+    let period = set.period;
+    let cycle = kinds::cycle_of(&period, set.tasks);
+    let mut from = [0u16; 4096];
+    let mut to = [0u16; 4096];
+    let e = links::of_set(set, cycle.ticks, &mut from, &mut to);
+    times::write_times(set, cycle.ticks, &from[..e], &to[..e], releases, deadlines);
+}
+
+// The adjusted release and deadline of each job of one cycle, by task, then job; a refusal, the first of 10, 11 and 13, leaves both buffers as they are.
+pub fn adjust(set: TaskSet, releases: &mut [i32], deadlines: &mut [i32]) -> Adjusted
+    ensures { λ r. ⌜ Answered (view set) (now (releases .entry)) (now (deadlines .entry)) r (now (releases .exit)) (now (deadlines .exit)) ⌝ }
+{
+    let a = adjusted_for(set, releases.len(), deadlines.len());
+    if !is_written(a) {
+        return a;
+    }
+    write_in(set, releases, deadlines);
+    a
 }
 
 // The number of document 01 for a finding: 0, 10, 13, 14 or 15.

@@ -3,8 +3,8 @@ use borrow.Author.Needs.{needs}
 use Rattle.flute.proofs.flute_read_evidence.Statement.{statement}
 use Rattle.flute.proofs.flute_read_evidence.Tie as tie
 
-read-requires : tie.Need-read-requires
-read-requires c κs = search needs
+read-outcome-requires : tie.Need-read-outcome-requires
+read-outcome-requires c κs = search needs
 
 evidence-of-requires : tie.Need-evidence-of-requires
 evidence-of-requires c κs = search needs
@@ -17,8 +17,8 @@ narrow-requires c κs = search needs
 
 returns : tie.Need-returns
 returns c =
-    read-evidence _ _ (c .before .before .before .read .ensures) (c .before .before .evidence-of .ensures) (c .before .one-of .ensures) (c .narrow .ensures)
+    read-evidence _ _ (c .before .before .before .read-outcome .ensures) (c .before .before .evidence-of .ensures) (c .before .one-of .ensures) (c .narrow .ensures)
 
 pub flute-read-evidence-spec : {M : Type 1} → statement M
 flute-read-evidence-spec =
-    tie.close (tie.spec read-requires evidence-of-requires one-of-requires narrow-requires returns)
+    tie.close (tie.spec read-outcome-requires evidence-of-requires one-of-requires narrow-requires returns)

@@ -1,30 +1,20 @@
 use Rattle.vocabulary.specs.More.{stopped, passed}
-use Rattle.screen.specs.Written.{unsound-set}
-use Rattle.screen.specs.Outcome.{cycled, refused-releases, refused-deadlines}
+use Rattle.screen.specs.Written.{refused, all-written, writable}
 use borrow.Author.Needs.{needs}
 use Rattle.screen.proofs.adjust.Statement.{statement}
 use Rattle.screen.proofs.adjust.Tie as tie
 
-is-sound-requires : tie.Need-is-sound-requires
-is-sound-requires c κs = search needs
+adjusted-for-requires : tie.Need-adjusted-for-requires
+adjusted-for-requires c κs = search needs
+
+is-written-requires : tie.Need-is-written-requires
+is-written-requires c κs = search needs
 
 returns : tie.Need-returns
-returns c = unsound-set _ _ _ (stopped (c .before .is-sound .ensures) (c .if1 .taken))
+returns c = refused _ _ _ (c .before .before .adjusted-for .ensures) (stopped (c .before .is-written .ensures) (c .if1 .taken))
 
-cycle-of-requires : tie.Need-cycle-of-requires
-cycle-of-requires c κs = search needs
-
-wide-requires : tie.Need-wide-requires
-wide-requires c κs = search needs
-
-returns-2 : tie.Need-returns-2
-returns-2 c = refused-releases _ _ _ (cycled _ (passed (c .before .before .before .before .before .before .is-sound .ensures) (c .before .before .before .before .before .if1 .left)) (c .before .before .cycle-of .ensures) (c .before .wide .ensures .0)) _ _ (c .if2 .taken)
-
-returns-3 : tie.Need-returns-3
-returns-3 c = refused-deadlines _ _ _ (cycled _ (passed (c .before .before .before .before .before .before .before .is-sound .ensures) (c .before .before .before .before .before .before .if1 .left)) (c .before .before .before .cycle-of .ensures) (c .before .before .wide .ensures .0)) _ _ (c .before .if2 .left) (c .if3 .taken)
-
-adjust-in-requires : tie.Need-adjust-in-requires
-adjust-in-requires c κs = (cycled _ (passed (c .before .before .before .before .before .before .before .before .before .is-sound .ensures) (c .before .before .before .before .before .before .before .before .if1 .left)) (c .before .before .before .before .before .cycle-of .ensures) (c .before .before .before .before .wide .ensures .0), c .before .before .before .if2 .left, c .before .before .if3 .left)
+write-in-requires : tie.Need-write-in-requires
+write-in-requires c κs = writable _ _ _ (c .before .before .before .before .adjusted-for .ensures) (passed (c .before .before .before .is-written .ensures) (c .before .before .if1 .left))
 
 same-length : tie.Need-same-length
 same-length c = search needs
@@ -32,20 +22,17 @@ same-length c = search needs
 same-length-2 : tie.Need-same-length-2
 same-length-2 c = search needs
 
-returns-4 : tie.Need-returns-4
-returns-4 c = c .before .before .adjust-in .ensures
+returns-2 : tie.Need-returns-2
+returns-2 c = all-written _ _ _ (c .before .before .before .before .before .before .before .adjusted-for .ensures) (passed (c .before .before .before .before .before .before .is-written .ensures) (c .before .before .before .before .before .if1 .left)) _ _ (c .before .before .write-in .ensures .0) (c .before .before .write-in .ensures .1)
 
 pub adjust-spec : {M : Type 1} → statement M
 adjust-spec =
     tie.close
     (tie.spec
-    is-sound-requires
+    adjusted-for-requires
+    is-written-requires
     returns
-    cycle-of-requires
-    wide-requires
-    returns-2
-    returns-3
-    adjust-in-requires
+    write-in-requires
     same-length
     same-length-2
-    returns-4)
+    returns-2)
