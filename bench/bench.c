@@ -28,7 +28,6 @@ static void judge_plain(void) { sink = plain_judge(file.bytes, file.tasks, slots
 static void read_shown(void) { sink = flute_read_evidence(file.bytes, file.length, 0); }
 static void screen_shown(void) { sink = flute_screen_evidence(file.bytes, file.tasks, 0); }
 static void judge_shown(void) { sink = flute_judge_evidence(file.bytes, file.tasks, slots(), slot_count(), 0); }
-#ifndef NO_BUFFERS
 static int32_t releases[FLUTE_MOST_JOBS], deadlines[FLUTE_MOST_JOBS];
 static uint8_t state[2][FLUTE_STATE_BYTES], out[2][FLUTE_MOST_PROCESSORS];
 static void adjust_archive(void) { sink = flute_adjust(file.bytes, file.tasks, releases, file.jobs, deadlines, file.jobs); }
@@ -49,7 +48,6 @@ static void step_shown(void)
 {
     sink = flute_step_evidence(file.bytes, file.tasks, slots(), slot_count(), 0, state[0], sizeof state[0], out[0], file.processors, 0);
 }
-#endif
 
 /* Start stands before step, so that a step has a state. */
 static const struct {
@@ -57,14 +55,10 @@ static const struct {
     void (*archive)(void), (*plain)(void), (*shown)(void);
 } calls[] = {{"read", read_archive, read_plain, read_shown},
              {"screen", screen_archive, screen_plain, screen_shown},
-#ifndef NO_BUFFERS
              {"adjust", adjust_archive, adjust_plain, adjust_shown},
-#endif
              {"judge", judge_archive, judge_plain, judge_shown},
-#ifndef NO_BUFFERS
              {"start", start_archive, start_plain, start_shown},
              {"step", step_archive, step_plain, step_shown},
-#endif
 };
 enum { CALLS = sizeof calls / sizeof *calls };
 

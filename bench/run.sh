@@ -1,5 +1,5 @@
 #!/usr/bin/env bash
-# Prints times, growth, stack, size and what the archive leans on, as a page in Markdown: docs/BENCH.md is such a page.
+# Prints times, growth, stack, the screen's slowest sets, size and what the archive leans on, as a page in Markdown: docs/BENCH.md is such a page.
 #   bench/run.sh > docs/BENCH.md         STAND_IN=1 measures the plain C of bench/ against itself, which shows how far the ratios can be trusted
 set -eu
 cd "$(dirname "$0")/.."
@@ -7,8 +7,8 @@ mkdir -p target/bench
 [ "${STAND_IN:-0}" = 1 ] || rt staticlib flute >target/bench/build.log 2>&1 || { cat target/bench/build.log; exit 1; }
 . tests/platform.sh
 with="bench/plain.c $archive"
-[ "${STAND_IN:-0}" = 1 ] && lacking='' with=$stand_in
-$cc -O3 $lacking bench/bench.c $with -o target/bench/bench
+[ "${STAND_IN:-0}" = 1 ] && with=$stand_in
+$cc -O3 bench/bench.c $with -o target/bench/bench
 
 cat <<PAGE
 # Times, stack and size
@@ -24,10 +24,20 @@ if [ -z "$run" ]; then
 else
     echo "This run: x86-64 code in an emulator on $(uname -m), $(nproc) cores, so that only the ratios say something; $load programs ran on average in the minute before."
 fi
-[ -z "$lacking" ] || printf '\nNot in this page: adjust, start and step, which the archive has no call for yet.\n'
 echo
 $run target/bench/bench examples/flight.plan examples/case_a.plan
 [ "${STAND_IN:-0}" = 1 ] && exit
+
+cat <<PAGE
+
+## The screen on links that are hard on it
+
+Long chains of jobs in the worst order (\`bench/slow.c\`). A set without a cycle costs its links, times the longest chain at worst. Where there is a cycle, jobs
+that ranks along and against the links leave open are searched one by one: those between two cycles.
+
+PAGE
+$cc -O2 bench/slow.c "$archive" -o target/bench/slow
+$run target/bench/slow
 
 sections=$($size -A "$archive")
 # bytes PATTERN: the bytes of all sections whose name begins so.

@@ -8,12 +8,7 @@ mkdir -p target/examples
 [ "${STAND_IN:-0}" = 1 ] || rt staticlib flute >target/examples/build.log 2>&1 || { cat target/examples/build.log; exit 1; }
 . tests/platform.sh
 with=$archive
-if [ "${STAND_IN:-0}" = 1 ]; then
-    with=$stand_in
-elif [ -n "$lacking" ]; then
-    echo 'The archive has no flute_start and flute_step: try STAND_IN=1.'
-    exit 1
-fi
+[ "${STAND_IN:-0}" = 1 ] && with=$stand_in
 $cc -O2 examples/executive.c $with -o target/examples/executive
 [ $# -gt 0 ] || set -- examples/*.plan
 for plan; do

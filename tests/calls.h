@@ -30,12 +30,10 @@ static inline int agrees(answer a, plain_answer b)
 static inline answer call_read(const uint8_t *f, size_t n) { CALL(flute_read, f, n); }
 static inline answer call_screen(const uint8_t *t, size_t n) { CALL(flute_screen, t, n); }
 static inline answer call_judge(const uint8_t *t, size_t n, const uint8_t *p, size_t pn) { CALL(flute_judge, t, n, p, pn); }
-#ifndef NO_BUFFERS
 static inline answer call_adjust(const uint8_t *t, size_t n, int32_t *a, size_t an, int32_t *d, size_t dn) { CALL(flute_adjust, t, n, a, an, d, dn); }
 static inline answer call_start(const uint8_t *t, size_t n, const uint8_t *p, size_t pn, uint8_t *s, size_t sn) { CALL(flute_start, t, n, p, pn, s, sn); }
 static inline answer call_step(const uint8_t *t, size_t n, const uint8_t *p, size_t pn, uint64_t rep, uint8_t *s, size_t sn, uint8_t *o, size_t on)
 {
     CALL(flute_step, t, n, p, pn, rep, s, sn, o, on);
 }
-#endif
 #endif

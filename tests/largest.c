@@ -22,7 +22,6 @@ static void judge_both(const made *f, const uint8_t *slots, const char *what)
     expect(agrees(call_judge(f->bytes, f->tasks, slots, n), plain_judge(f->bytes, f->tasks, slots, n)), what);
 }
 
-#ifndef NO_BUFFERS
 static void adjust_both(const made *f, const char *what)
 {
     static int32_t r1[FLUTE_MOST_JOBS], d1[FLUTE_MOST_JOBS], r2[FLUTE_MOST_JOBS], d2[FLUTE_MOST_JOBS];
@@ -44,7 +43,6 @@ static void play_both(const made *f, const uint8_t *slots, const char *what)
         expect(agrees(a, b) && !memcmp(s1, s2, sizeof s1) && !memcmp(o1, o2, f->processors), what);
     }
 }
-#endif
 
 static void run(const made *f, const char *what)
 {
@@ -61,10 +59,8 @@ static void run(const made *f, const char *what)
         slots[at] = was;
     }
     judge_both(f, slots, what);
-#ifndef NO_BUFFERS
     adjust_both(f, what);
     play_both(f, slots, what);
-#endif
 }
 
 int main(void)

@@ -11,13 +11,12 @@ give_up() { echo "$1"; echo '0 passed, 1 failed'; exit 1; }
 
 rt staticlib flute || give_up 'the archive is not built'
 . tests/platform.sh
-[ -z "$lacking" ] || echo 'left out, since the archive has no call that writes a buffer: adjust, start and step through the archive'
 for program in vectors largest random; do
-    $cc -O2 $lacking tests/$program.c bench/plain.c $archive -o "$out/$program" || give_up "$program is not built"
+    $cc -O2 tests/$program.c bench/plain.c $archive -o "$out/$program" || give_up "$program is not built"
 done
 $cc -O2 tests/vectors.c $stand_in -o "$out/vectors_plain" || give_up 'vectors is not built'
 $cc -O2 examples/executive.c $stand_in -o "$out/executive_plain" || give_up 'the example is not built'
-[ -n "$lacking" ] || $cc -O2 examples/executive.c $archive -o "$out/executive" || give_up 'the example is not built'
+$cc -O2 examples/executive.c $archive -o "$out/executive" || give_up 'the example is not built'
 
 # count NAME COMMAND..: run it and take its last line into the sum.
 count() {
@@ -51,9 +50,7 @@ stored() {
 for kind in reader judge screen adjusted step; do
     count "plain C, $kind" $run "$out/vectors_plain" $kind tests/vectors/$kind.txt
 done
-kinds='reader judge screen adjusted step'
-[ -z "$lacking" ] || kinds='reader judge screen'
-for kind in $kinds; do
+for kind in reader judge screen adjusted step; do
     count "archive, $kind" $run "$out/vectors" $kind tests/vectors/$kind.txt
 done
 count 'archive, largest plans' $run "$out/largest"
@@ -63,7 +60,7 @@ count 'archive against plain C, random cases' $run "$out/random" 200000
 same=0 other=0
 for plan in examples/*.plan; do
     stored "plain C, $plan" "${plan%.plan}.out" $run "$out/executive_plain" "$plan"
-    [ -n "$lacking" ] || stored "archive, $plan" "${plan%.plan}.out" $run "$out/executive" "$plan"
+    stored "archive, $plan" "${plan%.plan}.out" $run "$out/executive" "$plan"
 done
 echo "example executive: $same passed, $other failed"
 
@@ -80,6 +77,8 @@ for input in tests/runs/*/*.in; do
     fi
 done
 echo "stored runs of programs: $same passed, $other failed"
+
+count 'source 003, adjusted times' python3 tests/tables.py
 
 # The entry for people runs a program on a file, and ends with 2 where the arguments are wrong.
 ./flute judge >/dev/null 2>&1

@@ -4,7 +4,6 @@
 #   $run         what stands before a C program           $run_kit     what stands before a program in target/bin
 #   $nm, $size   what lists an archive's names and sections
 #   $stand_in    C files that answer the archive's calls with the plain C of bench/
-#   $lacking     -DNO_BUFFERS while the archive has no call that writes a buffer, else nothing
 if [ "$(uname -m)" = x86_64 ]; then
     command -v gcc >/dev/null || { apt-get update && apt-get install -y gcc libc6-dev; } >/dev/null
     cc=gcc nm=nm size=size run='' run_kit=''
@@ -17,5 +16,3 @@ fi
 cc="$cc -std=gnu11 -Wall -Wextra -Wno-unused-function"
 archive=target/staticlib/libflute.a
 stand_in='tests/stand_in.c bench/plain.c'
-lacking=
-if [ -e "$archive" ] && ! $nm "$archive" | grep -q ' T flute_step$'; then lacking=-DNO_BUFFERS; fi

@@ -101,7 +101,6 @@ static void try_judge(const uint8_t *tasks, size_t tasks_len, const uint8_t *pla
     compare(JUDGE, call_judge(t, tasks_len, p, plan_len), plain_judge(tasks, tasks_len, plan, plan_len));
 }
 
-#ifndef NO_BUFFERS
 static void any_bytes(void *to, size_t n)
 {
     uint8_t *bytes = to;
@@ -196,7 +195,6 @@ static void try_run(const uint8_t *tasks, size_t tasks_len, const uint8_t *plan,
     while (steps--)
         try_step(tasks, tasks_len, plan, plan_len, f, s2, ns, no);
 }
-#endif
 
 /* A set at the limits of jobs, cycle and links: n tasks of one period in turn and one that runs once, 256 jobs of each in a cycle, and links of the first
    jobs of two tasks. 8 tasks are a job too many, a period of 24 makes the cycle too long, and 17 patterns are 256 links too many. */
@@ -261,10 +259,8 @@ static void try_all(const made *f)
     try_read(file, file_len);
     try_screen(tasks, tasks_len);
     try_judge(tasks, tasks_len, plan, plan_len);
-#ifndef NO_BUFFERS
     try_adjust(tasks, tasks_len, f->jobs);
     try_run(tasks, tasks_len, plan, plan_len, f);
-#endif
 }
 
 /* How often each number was met, a line a call. */

@@ -95,7 +95,6 @@ static int run_screen(char *p)
     return compare(call_screen(tasks.bytes, tasks.length), p);
 }
 
-#ifndef NO_BUFFERS
 static int run_adjusted(char *p)
 {
     static bytes tasks;
@@ -160,15 +159,12 @@ static int run_step(char *p)
     return 1;
 }
 
-#endif
 
 static const struct {
     const char *name;
     int (*run)(char *);
 } kinds[] = {{"reader", run_reader}, {"judge", run_judge}, {"screen", run_screen},
-#ifndef NO_BUFFERS
            {"adjusted", run_adjusted}, {"step", run_step}
-#endif
 };
 
 int main(int argc, char **argv)

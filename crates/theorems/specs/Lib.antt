@@ -15,4 +15,5 @@ pub mod Solo
 pub mod Demand3Plans
 pub mod Demand3Calls
 pub mod Demand3
+pub mod Demand3Bytes
 pub mod Accepted

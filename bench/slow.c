@@ -1,6 +1,5 @@
 /* Times flute_screen on the largest sets whose links are hard on it: long chains of jobs that stand in the worst order, alone, into a cycle, out of one, and
-   between two. A measurement, not a test: it prints what was answered and the processor's milliseconds of the fastest of three calls.
-   gcc -O2 tests/slow.c target/staticlib/libflute.a */
+   between two. Prints a table: what was answered, and the processor's milliseconds of the fastest of three calls. */
 #include "../include/flute.h"
 #include <stdio.h>
 #include <string.h>
@@ -117,8 +116,7 @@ static void measure(const char *what)
         if (!i || took < best)
             best = took;
     }
-    printf("%-34s %4u jobs %4u links %4u pairs: answers %u %u %u in %.2f ms\n", what, jobs, links, set.pairs, answer, flute_screen_evidence(bytes, length, 0),
-           flute_screen_evidence(bytes, length, 1), best);
+    printf("| %s | %u | %u | %u %u %u | %.1f |\n", what, jobs, links, answer, flute_screen_evidence(bytes, length, 0), flute_screen_evidence(bytes, length, 1), best);
 }
 
 /* One chain through all jobs: down the tasks 62 to 0 in each of 32 columns, and by task 63, which has 31 jobs, on to the next column. Links that come later
@@ -194,6 +192,7 @@ static void four(int in, int out)
 
 int main(void)
 {
+    printf("| links | jobs | links in a cycle | number and evidence | ms |\n|---|---:|---:|---|---:|\n");
     chain(0, 0);
     measure("a chain in bad order");
     chain(1, 0);
