@@ -47,7 +47,8 @@ over. What one task reports changes no tick of another.''',
       ('theorems/specs/Demand3.antt', 'none-after', 'or any after it is heard to finish'),
       ('theorems/specs/Demand3.antt', 'in-order', 'no job runs before those that it waits for are over'),
       ('theorems/specs/Demand3.antt', 'own-reports-only', "other tasks' early finishes change nothing for a task"),
-      ('theorems/specs/Demand3.antt', 'bytes-keep', 'nor does the way of the state through its 21 bytes, as the controller keeps it')]),
+      ('theorems/specs/Demand3Bytes.antt', 'goes-on-in-bytes', 'all of this holds of the run that the controller makes, with the state kept in its 21 bytes'),
+      ('theorems/specs/Demand3Bytes.antt', 'refused-in-bytes', 'in which a refused step leaves state and output as they are')]),
 ]
 
 NOT_COVERED = '''

@@ -1,7 +1,5 @@
 -- What can be asked of the definitions, and what they answer, in document 01's numbers.
-use mathlib.Core.Path.{_≡_}
-use mathlib.Core.Bool.{Bool, true, false}
-use mathlib.Core.List.{List, [], _∷_, map}
+use mathlib.Core.List.{List, _∷_, map}
 use Prim.Native.Nat.{ℕ, suc, _+_, _^_}
 use lib.Dec.{eqb}
 use lib.IntN.{ℤ}
@@ -9,7 +7,7 @@ use lib.ListN.{length}
 use Rattle.vocabulary.specs.Test.{pick}
 use Rattle.vocabulary.specs.Table.{table}
 use Rattle.kinds.specs.Limits.{range}
-use Rattle.kinds.specs.Tasks.{Tasks, Patterns, Set, tasksOf, patternsOf}
+use Rattle.kinds.specs.Tasks.{Set, tasksOf, patternsOf}
 use Rattle.kinds.specs.Cycle.{jobs}
 use Rattle.reader.specs.declared.Got.{Got}
 use Rattle.reader.specs.declared.Got.the-variants as got

@@ -1,9 +1,9 @@
 -- "For the C side the state is 21 bytes: tick (4), first cycle (1; holding 1 during it, 0 after, else 30), done (8), ran (8), lowest byte first."
-use mathlib.Core.Bool.{Bool, true, false}
+use mathlib.Core.Bool.{Bool}
 use mathlib.Core.List.{List, [], _∷_, _++_}
 use Prim.Native.Nat.{ℕ, zero, suc, _+_, _*_, _/_, _%_}
 use lib.Dec.{eqb, leb}
-use lib.ListN.{getD, length}
+use lib.ListN.{getD}
 use Rattle.vocabulary.specs.Test.{bit}
 use Rattle.dispatcher.specs.declared.State.{State}
 

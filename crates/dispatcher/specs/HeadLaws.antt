@@ -1,15 +1,14 @@
 -- The ways out of the calls for C.
 use mathlib.Core.Path.{_≡_, refl, sym, ap, _∙_, subst}
-use mathlib.Core.Bool.{Bool, true, false, _&&_, _||_, not}
+use mathlib.Core.Bool.{Bool, true, false, _&&_}
 use mathlib.Core.List.{List}
 use Prim.Native.Nat.{ℕ, _*_, _≤_}
 use native.Mathlib.Nat.{mul-le-mul}
 use lib.Dec.{eqb}
 use lib.ListN.{length}
 use borrow.Author.Tests.{eq-eqb, ne-eqb, eqb-true}
-use Rattle.vocabulary.specs.Test.{pick, both, clash}
+use Rattle.vocabulary.specs.Test.{both, clash}
 use Rattle.kinds.specs.Tasks.{Set, view}
-use Rattle.kinds.specs.Cycle.{cycle}
 use Rattle.kinds.specs.Sound.{sound}
 use Rattle.reader.specs.declared.Taking.{Taking}
 use Rattle.reader.specs.declared.Shape.{Shape}
@@ -18,8 +17,7 @@ use Rattle.reader.specs.Files.{setOf, notTaken, takenOf}
 use Rattle.reader.specs.ReadLaws.{WholeHead}
 use Rattle.judge.specs.declared.Verdict.{Verdict}
 use Rattle.judge.specs.declared.Verdict.the-variants as verdict
-use Rattle.judge.specs.Judgement.{verdictOf}
-use Rattle.judge.specs.Heads.{onTaking, judgedOf}
+use Rattle.judge.specs.Heads.{judgedOf}
 use Rattle.dispatcher.specs.declared.State.{State}
 use Rattle.dispatcher.specs.declared.Answer.{Answer}
 use Rattle.dispatcher.specs.declared.Answer.the-variants as answer
@@ -30,7 +28,7 @@ use Rattle.dispatcher.specs.Outcome.{Outcome, writtenOf, written-is}
 use Rattle.dispatcher.specs.Tables.{Of, onAnswer, isShown, answerOn, OutcomeOn}
 use Rattle.dispatcher.specs.StepLaws.{on-refusal, answer-is}
 use Rattle.dispatcher.specs.SetLaws.{Found}
-use Rattle.dispatcher.specs.Heads.{Begun, begun, firstBytes, startVerdict, begunOf, nowhere, stateIn, Left, left, nextBytes, leftBy, leftFor, leftAfter}
+use Rattle.dispatcher.specs.Heads.{begun, firstBytes, begunOf, nowhere, stateIn, Left, left, nextBytes, leftBy, leftFor, leftAfter}
 
 -- ---- starting
 module _ (tasks slots state : List ℕ) where

@@ -1,14 +1,14 @@
 -- What starting and stepping answer for every input, and what they leave in the output.
-use mathlib.Core.Bool.{Bool, true, false, _||_, not}
+use mathlib.Core.Bool.{Bool, true, _||_, not}
 use mathlib.Core.List.{List}
 use Prim.Native.Nat.{ℕ, _+_, _*_, _^_}
 use lib.Dec.{eqb, leb, ltb}
-use lib.ListN.{length, getD}
+use lib.ListN.{length}
 use Rattle.vocabulary.specs.Test.{pick}
 use Rattle.vocabulary.specs.Least.{least, some}
 use Rattle.kinds.specs.Tasks.{Tasks, Set}
 use Rattle.kinds.specs.Cycle.{cycle}
-use Rattle.kinds.specs.Plans.{Plan, planOf, slot}
+use Rattle.kinds.specs.Plans.{planOf, slot}
 use Rattle.kinds.specs.Sound.{sound}
 use Rattle.judge.specs.declared.Verdict.{Verdict}
 use Rattle.judge.specs.declared.Verdict.the-variants as verdict

@@ -1,5 +1,5 @@
 -- Runs: any number of steps and any reports, over a function from true tick to row. A plan's repetition is one such function.
-use mathlib.Core.Bool.{Bool, true, false, _&&_}
+use mathlib.Core.Bool.{Bool, _&&_}
 use mathlib.Core.List.{List}
 use Prim.Native.Nat.{ℕ, zero, suc}
 use Rattle.vocabulary.specs.Bits.{has}

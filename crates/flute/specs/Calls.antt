@@ -1,6 +1,6 @@
 -- What the calls for C answer: "To C a call answers its number, else 0; a second, on the same arguments, one evidence number at a time."
 use mathlib.Core.Path.{_≡_, refl, sym, ap, _∙_}
-use mathlib.Core.Bool.{Bool, true, false}
+use mathlib.Core.Bool.{true, false}
 use mathlib.Core.List.{List, [], _∷_}
 use Prim.Native.Nat.{ℕ, _%_}
 use lib.ListN.{getD}

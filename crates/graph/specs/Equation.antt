@@ -1,13 +1,12 @@
 -- Without a cycle the adjusted deadlines solve their equations in integers, and nothing else does.
 use mathlib.Core.Path.{_≡_, refl, sym, ap, ap₂, _∙_}
 use mathlib.Core.Bool.{Bool, true, false}
-use mathlib.Core.Logic.{_⊎_, inl, inr, ⊎-elim}
 use Prim.Native.Nat.{ℕ, zero, suc, _+_, _-_, _≤_, _<_}
 use native.Mathlib.Omega.{arith}
 use lib.Dec.{eqb}
 use lib.IntN.{ℤ, pos, subℕ, _-ℤ_}
 use borrow.Author.Tests.{eqb-true}
-use Rattle.vocabulary.specs.Test.{decide, pick}
+use Rattle.vocabulary.specs.Test.{pick}
 use Rattle.graph.specs.Graph.{Graph, Inside}
 use Rattle.graph.specs.Reach.{Free, rank, rank-up, rank-low, free-by}
 use Rattle.graph.specs.Longest.{most, rounds}

@@ -1,6 +1,5 @@
 -- A number per job that is the greatest of the job's own and of what its predecessors bring: its equation.
 use mathlib.Core.Path.{_≡_}
-use mathlib.Core.Bool.{Bool, true, false}
 use Prim.Native.Nat.{ℕ, zero, suc, _+_, _<_, max}
 use lib.Dec.{eqb}
 use Rattle.vocabulary.specs.Test.{pick}

@@ -1,12 +1,12 @@
 -- The computed test is the existence of a way; without a cycle each job has a rank, below n.
-use mathlib.Core.Path.{_≡_, refl, sym, ap, _∙_}
+use mathlib.Core.Path.{_≡_, refl, ap, _∙_}
 use mathlib.Core.Bool.{Bool, true, false, _&&_, _||_, not}
 use mathlib.Core.Logic.{_↔_, _⊎_, inl, inr, ⊎-elim}
 use Prim.Native.Nat.{ℕ, zero, suc, _+_, _≤_, _<_}
 use native.Mathlib.Nat.{eq-or-lt-of-le, le-of-suc-le-suc}
 use native.Mathlib.Omega.{arith}
 use lib.Dec.{eqb}
-use borrow.Author.Tests.{eqb-true, eq-eqb, not-true, not-false}
+use borrow.Author.Tests.{eqb-true, eq-eqb, not-true}
 use Rattle.vocabulary.specs.Test.{clash, fails, both, decide, bit, bit-mono}
 use Rattle.vocabulary.specs.Count.{count, count-le, count-mono}
 use Rattle.vocabulary.specs.Least.{least, some, some-yes, some-not, some-at}

@@ -1,13 +1,13 @@
 -- Without a cycle the equations have one solution: n rounds.
 use mathlib.Core.Path.{_≡_, refl, sym, ap, ap₂, _∙_}
-use mathlib.Core.Bool.{Bool, true, false}
+use mathlib.Core.Bool.{true, false}
 use mathlib.Core.Logic.{_⊎_, inl, inr, ⊎-elim}
 use Prim.Native.Nat.{ℕ, zero, suc, _+_, _*_, _≤_, _<_, max}
 use native.Mathlib.Nat.{eq-or-lt-of-le, le-of-suc-le-suc}
 use native.Mathlib.Omega.{arith}
 use lib.Dec.{eqb}
 use borrow.Author.Tests.{eqb-true, eq-eqb}
-use Rattle.vocabulary.specs.Test.{decide, pick}
+use Rattle.vocabulary.specs.Test.{decide}
 use Rattle.graph.specs.Graph.{Graph, Inside}
 use Rattle.graph.specs.Reach.{Free, rank, rank-low, rank-up}
 use Rattle.graph.specs.Longest.{most, brings, entry, Solves, rounds}

@@ -1,6 +1,5 @@
 -- Adjusted deadlines, in integers: the least of a job's own deadline and each successor's adjusted deadline less its running time.
-use mathlib.Core.Path.{_≡_}
-use mathlib.Core.Bool.{Bool, true, false}
+use mathlib.Core.Bool.{Bool}
 use Prim.Native.Nat.{ℕ, zero, suc}
 use lib.Dec.{eqb}
 use lib.IntN.{ℤ, pos, _-ℤ_}

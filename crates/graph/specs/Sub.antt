@@ -1,17 +1,17 @@
 -- Adjusted deadlines by natural numbers: z less a greatest.
-use mathlib.Core.Path.{_≡_, refl, sym, ap, ap₂, _∙_}
+use mathlib.Core.Path.{_≡_, sym, ap, ap₂, _∙_}
 use mathlib.Core.Bool.{Bool, true, false}
-use mathlib.Core.Logic.{_⊎_, inl, inr, ⊎-elim}
+use mathlib.Core.Logic.{_⊎_, inl, inr}
 use Prim.Native.Nat.{ℕ, zero, suc, _+_, _-_, _≤_, _<_, max}
-use native.Mathlib.Nat.{add-zero, max-zero, max-eq-left, max-eq-right}
+use native.Mathlib.Nat.{add-zero}
 use native.Mathlib.Omega.{arith}
-use lib.Dec.{eqb, ltb}
+use lib.Dec.{eqb}
 use lib.IntN.{ℤ, pos, negsuc, subℕ, _-ℤ_}
 use lib.Signed.{leZ}
 use borrow.Author.Tests.{lt-ltb, le-ltb, le-leb, lt-leb}
-use Rattle.vocabulary.specs.Test.{lt-or-le, decide, pick}
+use Rattle.vocabulary.specs.Test.{lt-or-le, pick}
 use Rattle.graph.specs.Graph.{Graph, Inside}
-use Rattle.graph.specs.Longest.{most, brings, entry, rounds}
+use Rattle.graph.specs.Longest.{most, entry, rounds}
 use Rattle.graph.specs.Soonest.{minZ, fewest, due, soonest}
 
 pub sub-ge : (a b : ℕ) → b ≤ a → subℕ a b ≡ pos (a - b)

@@ -15,7 +15,7 @@ use Rattle.kinds.specs.Limits.{holds, periods}
 use Rattle.kinds.specs.Tasks.{Tasks, Patterns, Set, period, running}
 use Rattle.kinds.specs.Cycle.{cycle, jobsOf, jobsBefore, jobs, onlyPeriods, cycleOf}
 use Rattle.kinds.specs.Jobs.{numberOfJob}
-use Rattle.kinds.specs.Plans.{Plan, plan, planOf, ticks}
+use Rattle.kinds.specs.Plans.{Plan, plan, ticks}
 use Rattle.kinds.specs.Sound.{sound}
 use Rattle.kinds.specs.Facts.{Sound, sound-facts}
 use Rattle.kinds.specs.Laws.{holds-yes, cycle-some}

@@ -1,8 +1,6 @@
 -- Task sets made step by step, as the constructors make them. A step that finds no room leaves the set as it is.
-use mathlib.Core.Path.{_≡_}
-use mathlib.Core.Bool.{Bool, true, false}
 use mathlib.Core.List.{List}
-use Prim.Native.Nat.{ℕ, zero, suc, _+_, _-_, _<_, _≤_}
+use Prim.Native.Nat.{ℕ, _+_, _-_}
 use lib.Dec.{leb, ltb, eqb}
 use lib.ListN.{set, replicate, getD}
 use Rattle.vocabulary.specs.Test.{pick}

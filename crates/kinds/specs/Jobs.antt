@@ -1,5 +1,5 @@
 -- Jobs and their windows.
-use mathlib.Core.Bool.{Bool, true, false, _&&_}
+use mathlib.Core.Bool.{Bool, _&&_}
 use Prim.Native.Nat.{ℕ, suc, _+_, _-_, _*_}
 use lib.Dec.{leb, ltb}
 use Rattle.vocabulary.specs.Least.{least}

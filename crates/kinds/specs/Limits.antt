@@ -1,5 +1,5 @@
 -- The numbers that document 01 allows, each as a range. The reader refuses by these ranges, and rule 10 tests a lent set by the same.
-use mathlib.Core.Bool.{Bool, true, false, _&&_}
+use mathlib.Core.Bool.{Bool, _&&_}
 use Prim.Native.Nat.{ℕ, _+_}
 use lib.Dec.{leb, ltb, eqb}
 use Rattle.vocabulary.specs.Test.{pick}

@@ -1,5 +1,5 @@
 -- Patterns, pairs and the links that they make.
-use mathlib.Core.Bool.{Bool, true, false, _&&_}
+use mathlib.Core.Bool.{Bool, _&&_}
 use Prim.Native.Nat.{ℕ, _+_, _*_, _/_}
 use lib.Dec.{ltb, eqb}
 use Rattle.vocabulary.specs.Test.{pick}

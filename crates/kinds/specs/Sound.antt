@@ -1,6 +1,6 @@
 -- Rule 10: "a lent task set or m breaks a rule that the reader tests by 3, 4, 5, 6 or 9".
 use mathlib.Core.Path.{_≡_}
-use mathlib.Core.Bool.{Bool, true, false, _&&_, not}
+use mathlib.Core.Bool.{Bool, true, _&&_, not}
 use mathlib.Core.List.{List}
 use Prim.Native.Nat.{ℕ, zero, suc, _+_, _<_, _≤_}
 use lib.Dec.{leb, eqb}
@@ -9,7 +9,7 @@ use Rattle.vocabulary.specs.Least.{all}
 use Rattle.kinds.specs.declared.Key.{Key}
 use Rattle.kinds.specs.declared.Tested.{Tested}
 use Rattle.kinds.specs.Limits.{holds, editions, taskCounts, processorCounts, periods, runnings, offsets, deadlines, patternCounts, mostPairs, mostLinks, noKey, after, rises}
-use Rattle.kinds.specs.Tasks.{Tasks, Patterns, Set, period, running, offset, deadline, fromTask, toTask, pairCount, pairsBefore, pairFirst, pairSecond}
+use Rattle.kinds.specs.Tasks.{Tasks, Patterns, Set, period, running, offset, deadline, fromTask, toTask, pairCount, pairsBefore}
 use Rattle.kinds.specs.Cycle.{cycle, cycleFits}
 use Rattle.kinds.specs.Links.{common, firstReach, reach, links}
 

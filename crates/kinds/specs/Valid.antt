@@ -1,8 +1,8 @@
 -- Demand 2, over all time: the plan's "endless repetition gives every job exactly its running time between release and deadline and no tick outside,
 -- never on two processors at once, with every precedence kept."
 use mathlib.Core.Path.{_≡_}
-use mathlib.Core.Bool.{Bool, true, false}
-use Prim.Native.Nat.{ℕ, _<_, _≤_}
+use mathlib.Core.Bool.{true}
+use Prim.Native.Nat.{ℕ, _<_}
 use Rattle.kinds.specs.Tasks.{Tasks, Patterns, Set, running, fromTask, toTask, pairCount}
 use Rattle.kinds.specs.Jobs.{inWindow}
 use Rattle.kinds.specs.Links.{linkFrom, linkTo}

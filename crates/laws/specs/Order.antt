@@ -1,6 +1,6 @@
 -- The jobs of a cycle by number: a number tells its task and its job, and a link's jobs have numbers.
-use mathlib.Core.Path.{_≡_, refl, sym, ap, _∙_}
-use mathlib.Core.Bool.{Bool, true, false}
+use mathlib.Core.Path.{_≡_, refl, sym, ap}
+use mathlib.Core.Bool.{Bool}
 use mathlib.Core.Logic.{_⊎_, inl, inr}
 use Prim.Native.Nat.{ℕ, zero, suc, _+_, _-_, _*_, _/_, _<_, _≤_, _∣_}
 use native.Mathlib.Nat.{le-div-iff-mul-le, div-mul-cancel, mul-le-mul, le-refl}
@@ -10,7 +10,7 @@ use lib.Dec.{ltb}
 use borrow.Author.Tests.{lt-ltb, le-ltb, ltb-false}
 use Rattle.vocabulary.specs.Test.{lt-or-le}
 use Rattle.vocabulary.specs.Least.{least, Least, least-is, least-only}
-use Rattle.vocabulary.specs.Total.{total, total-none, total-suc, total-up}
+use Rattle.vocabulary.specs.Total.{total-none, total-suc, total-up}
 use Rattle.kinds.specs.Tasks.{Tasks, Set, period, fromTask, toTask, pairCount, pairFirst, pairSecond}
 use Rattle.kinds.specs.Cycle.{cycle, jobsOf, jobsBefore, jobs}
 use Rattle.kinds.specs.Jobs.{numberOfJob, taskOfJob, jobOfJob}

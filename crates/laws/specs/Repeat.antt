@@ -1,19 +1,18 @@
 -- One cycle speaks for all time: what a plan shows, when jobs are released and what they get come again after each cycle.
 use mathlib.Core.Path.{_≡_, sym, ap, _∙_, fun-ext}
-use mathlib.Core.Bool.{Bool, true, false, _&&_}
-use mathlib.Core.List.{List}
-use Prim.Native.Nat.{ℕ, zero, suc, _+_, _-_, _*_, _%_, _/_, _≤_, _<_, _∣_}
+use mathlib.Core.Bool.{Bool, true}
+use Prim.Native.Nat.{ℕ, _+_, _-_, _*_, _%_, _/_, _≤_, _<_, _∣_}
 use native.Mathlib.Nat.{mod-mod, add-mod-right, mod-add-div', add-mul-mod-self-right, div-mul-cancel, mod-lt, div-add-mod', le-of-dvd, lt-of-lt-of-le}
 use native.Mathlib.Omega.{arith}
 use lib.Dec.{eqb, leb}
 use borrow.Author.Tests.{le-leb, leb-true}
 use Rattle.vocabulary.specs.Test.{both}
 use Rattle.vocabulary.specs.Count.{count, count-same}
-use Rattle.vocabulary.specs.Least.{some, some-at, some-yes}
+use Rattle.vocabulary.specs.Least.{some}
 use Rattle.vocabulary.specs.Remainder.{since}
 use Rattle.kinds.specs.Tasks.{Tasks, Set, period, offset, deadline}
 use Rattle.kinds.specs.Cycle.{cycle, jobsOf}
-use Rattle.kinds.specs.Jobs.{release, due}
+use Rattle.kinds.specs.Jobs.{release}
 use Rattle.kinds.specs.Plans.{Plan, slot, shows, shown, awake, runs, ticks}
 use Rattle.kinds.specs.Facts.{Sound, some-jobs}
 

@@ -9,7 +9,6 @@ use Rattle.kinds.specs.declared.Key.{Key}
 use Rattle.kinds.specs.declared.Spans.{Spans}
 use Rattle.kinds.specs.Limits.{range, periods, runnings, offsets, deadlines, mostPairs, noKey, after, firstRange, secondRange}
 use Rattle.kinds.specs.Links.{spansOf, linksIn}
-use Rattle.reader.specs.declared.Refusal.{Refusal}
 use Rattle.reader.specs.declared.Refusal.the-variants as refusal
 use Rattle.reader.specs.declared.Task.{Task}
 use Rattle.reader.specs.declared.TaskRead.{TaskRead}

@@ -1,8 +1,7 @@
 -- Adjusted releases and deadlines, per job of one cycle.
 use mathlib.Core.Path.{_≡_}
 use Prim.Native.Nat.{ℕ, _<_}
-use lib.IntN.{ℤ, pos}
-use Rattle.graph.specs.Graph.{Graph}
+use lib.IntN.{ℤ}
 use Rattle.graph.specs.Longest.{Solves, rounds}
 use Rattle.graph.specs.Soonest as soonest
 use Rattle.kinds.specs.Tasks.{Tasks, Patterns, running}

@@ -1,11 +1,8 @@
 -- From the verdict alone: what an accepted plan brings to the other theorems.
-use mathlib.Core.Path.{_≡_, refl, sym, _∙_}
-use mathlib.Core.Bool.{true, false}
+use mathlib.Core.Path.{_≡_}
 use mathlib.Core.List.{List}
-use mathlib.Core.Logic.{_↔_}
 use Prim.Native.Nat.{ℕ}
 use Rattle.kinds.specs.Tasks.{Set}
-use Rattle.kinds.specs.Sound.{sound}
 use Rattle.kinds.specs.Plans.{planOf}
 use Rattle.kinds.specs.Valid.{Valid}
 use Rattle.judge.specs.declared.Verdict.the-variants as verdict

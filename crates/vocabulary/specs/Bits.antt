@@ -1,17 +1,17 @@
 -- Marks as the bits of a number: bit i of x, and what the operations on words do to it.
-use mathlib.Core.Path.{_≡_, refl, sym, ap, ap₂, _∙_}
+use mathlib.Core.Path.{_≡_, refl, sym, ap, _∙_}
 use mathlib.Core.Bool.{Bool, true, false, _&&_, _||_, not}
 use mathlib.Core.Logic.{_⊎_, inl, inr, ⊎-elim}
 use Prim.Native.Nat.{ℕ, zero, suc, _+_, _*_, _-_, _/_, _%_, _^_, _≤_, _<_, min, max}
-use native.Mathlib.Nat.{div-div-eq-div-mul, two-pow-succ, pow-succ', pow-zero, div-one, mul-comm}
+use native.Mathlib.Nat.{div-div-eq-div-mul, two-pow-succ, pow-succ', div-one}
 use native.Mathlib.Omega.{arith}
 use native.Mathlib.Nat.{div-eq-of-lt, lt-of-lt-of-le, one-mul, zero-mul, add-zero, eq-or-lt-of-le, le-of-suc-le-suc, le-refl}
 use lib.Pow.{pow-mono, pow-lt, shl-exact}
 use native.Mathlib.Numerals.{add-one}
 use lib.Dec.{lit<, eqb, eqb·zero-suc, eqb·suc-zero, eqb·suc-suc}
 use lib.Bits.{bitAnd, bitOr, or-step, and-step, or-shr, and-shr}
-use borrow.Author.Tests.{eq-eqb, ne-eqb, eqb-true, eqb-false}
-use Rattle.vocabulary.specs.Test.{clash, decide, fails, bit, lt-or-le}
+use borrow.Author.Tests.{eq-eqb, ne-eqb}
+use Rattle.vocabulary.specs.Test.{clash, bit, lt-or-le}
 
 -- bit i of x
 unfoldable pub has : ℕ → ℕ → Bool

@@ -1,7 +1,7 @@
 -- The least common multiple of two numbers and of n numbers. It is found by trying multiples; its laws say what it means.
-use mathlib.Core.Bool.{Bool, true, false}
-use mathlib.Core.Path.{_≡_, refl, sym, _∙_, ap, ap₂, subst}
-use mathlib.Core.Logic.{⊎-elim, _⊎_, inl, inr}
+use mathlib.Core.Bool.{Bool, true}
+use mathlib.Core.Path.{_≡_, refl, ap₂, subst}
+use mathlib.Core.Logic.{⊎-elim, _⊎_}
 use Prim.Native.Nat.{ℕ, zero, suc, _+_, _-_, _*_, _/_, _%_, _≤_, _<_, _∣_}
 use native.Mathlib.Nat.{dvd-mul-right, dvd-mul-left, dvd-trans, dvd-of-mod-eq-zero, mod-eq-zero-of-dvd, mul-div-cancel', le-of-dvd, pos-of-dvd-of-pos, le-div-iff-mul-le, mul-mod-left, mul-le-mul-left, mul-pos, mod-lt, dvd-mod-iff, one-mul, eq-zero-or-pos, one-dvd, dvd-sub, add-zero, add-suc, le-refl, le-trans, le-antisymm, eq-or-lt-of-le, le-of-suc-le-suc}
 use native.Mathlib.Numerals.{add-one}

@@ -1,14 +1,10 @@
-use mathlib.Core.Path.{ap, _∙_, sym}
-use Prim.Native.Nat.{ℕ}
+use mathlib.Core.Path.{ap}
 use Rattle.vocabulary.specs.More.{stopped, passed}
 use Rattle.dispatcher.specs.Heads.{Left}
 use Rattle.dispatcher.specs.HeadLaws.{wrong-lengths, right-plan, answered-by}
 use borrow.Author.Needs.{needs}
 use Rattle.dispatcher.proofs.answer_lent.Statement.{statement}
 use Rattle.dispatcher.proofs.answer_lent.Tie as tie
-use Rattle.dispatcher.proofs.State.answer_on.Reads as answer-on-reads
-use Rattle.dispatcher.proofs.State.of_bytes.Reads as of-bytes-reads
-use Rattle.dispatcher.proofs.lengths_fit.Reads as lengths-fit-reads
 
 lengths-fit-requires : tie.Need-lengths-fit-requires
 lengths-fit-requires c κs = (c .before .before .before .pre .2, c .before .before .before .pre .1)

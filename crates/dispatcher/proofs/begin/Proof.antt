@@ -4,8 +4,6 @@ use Rattle.dispatcher.proofs.Tags.{not-accepted}
 use borrow.Author.Needs.{needs}
 use Rattle.dispatcher.proofs.begin.Statement.{statement}
 use Rattle.dispatcher.proofs.begin.Tie as tie
-use Rattle.dispatcher.proofs.State.new.Reads as new-reads
-use Rattle.dispatcher.proofs.State.write.Reads as write-reads
 
 enum-told : tie.Need-enum-told
 enum-told c = search needs

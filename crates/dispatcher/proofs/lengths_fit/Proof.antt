@@ -3,7 +3,6 @@ use Rattle.dispatcher.specs.HeadLaws.{low-product, other-plan, other-roo
 use borrow.Author.Needs.{needs}
 use Rattle.dispatcher.proofs.lengths_fit.Statement.{statement}
 use Rattle.dispatcher.proofs.lengths_fit.Tie as tie
-use Rattle.dispatcher.proofs.wide.Reads as wide-reads
 
 wide-requires : tie.Need-wide-requires
 wide-requires c κs = search needs

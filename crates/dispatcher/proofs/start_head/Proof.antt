@@ -2,8 +2,6 @@ use Rattle.dispatcher.specs.HeadLaws.{begun-is}
 use borrow.Author.Needs.{needs}
 use Rattle.dispatcher.proofs.start_head.Statement.{statement}
 use Rattle.dispatcher.proofs.start_head.Tie as tie
-use Rattle.dispatcher.proofs.begin.Reads as begin-reads
-use Rattle.dispatcher.proofs.start_verdict.Reads as start-verdict-reads
 
 start-verdict-requires : tie.Need-start-verdict-requires
 start-verdict-requires c κs = search needs

@@ -2,8 +2,6 @@ use Rattle.dispatcher.specs.HeadLaws.{right-state, wrong-state, no-tasks
 use borrow.Author.Needs.{needs}
 use Rattle.dispatcher.proofs.start_verdict.Statement.{statement}
 use Rattle.dispatcher.proofs.start_verdict.Tie as tie
-use Rattle.judge.proofs.judge_head.Reads as judge-head-reads
-use Rattle.reader.proofs.take_head.Reads as take-head-reads
 
 judge-head-requires : tie.Need-judge-head-requires
 judge-head-requires c κs = search needs

@@ -7,9 +7,6 @@ use Rattle.dispatcher.specs.HeadLaws.{no-head, head-found, head-answered
 use borrow.Author.Needs.{needs}
 use Rattle.dispatcher.proofs.step_answer.Statement.{statement}
 use Rattle.dispatcher.proofs.step_answer.Tie as tie
-use Rattle.dispatcher.proofs.answer_lent.Reads as answer-lent-reads
-use Rattle.dispatcher.proofs.wide.Reads as wide-reads
-use Rattle.reader.proofs.read_head.Reads as read-head-reads
 
 read-head-requires : tie.Need-read-head-requires
 read-head-requires c κs = search needs

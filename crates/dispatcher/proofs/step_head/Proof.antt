@@ -6,9 +6,6 @@ use Rattle.dispatcher.specs.HeadLaws.{no-head, head-found, head-left}
 use borrow.Author.Needs.{needs}
 use Rattle.dispatcher.proofs.step_head.Statement.{statement}
 use Rattle.dispatcher.proofs.step_head.Tie as tie
-use Rattle.dispatcher.proofs.step_lent.Reads as step-lent-reads
-use Rattle.dispatcher.proofs.wide.Reads as wide-reads
-use Rattle.reader.proofs.read_head.Reads as read-head-reads
 
 read-head-requires : tie.Need-read-head-requires
 read-head-requires c κs = search needs

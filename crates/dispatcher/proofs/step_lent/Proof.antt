@@ -3,10 +3,6 @@ use Rattle.dispatcher.specs.HeadLaws.{wrong-lengths, right-plan, right-r
 use borrow.Author.Needs.{needs}
 use Rattle.dispatcher.proofs.step_lent.Statement.{statement}
 use Rattle.dispatcher.proofs.step_lent.Tie as tie
-use Rattle.dispatcher.proofs.State.of_bytes.Reads as of-bytes-reads
-use Rattle.dispatcher.proofs.State.step_tables.Reads as step-tables-reads
-use Rattle.dispatcher.proofs.keep.Reads as keep-reads
-use Rattle.dispatcher.proofs.lengths_fit.Reads as lengths-fit-reads
 
 lengths-fit-requires : tie.Need-lengths-fit-requires
 lengths-fit-requires c κs = (c .before .before .before .pre .1, c .before .before .before .pre .0 .short)

@@ -4,9 +4,6 @@ use Rattle.judge.specs.Ways.{bad-set, set-held, held-verdict}
 use borrow.Author.Needs.{needs}
 use Rattle.judge.proofs.judge.Statement.{statement}
 use Rattle.judge.proofs.judge.Tie as tie
-use Rattle.judge.proofs.judge_lent.Reads as judge-lent-reads
-use Rattle.kinds.proofs.cycle_of.Reads as cycle-of-reads
-use Rattle.kinds.proofs.is_sound.Reads as is-sound-reads
 
 is-sound-requires : tie.Need-is-sound-requires
 is-sound-requires c κs = search needs

@@ -5,8 +5,6 @@ use Rattle.judge.specs.Heads.{no-head, head-held, head-judged}
 use borrow.Author.Needs.{needs}
 use Rattle.judge.proofs.judge_head.Statement.{statement}
 use Rattle.judge.proofs.judge_head.Tie as tie
-use Rattle.judge.proofs.judge_lent.Reads as judge-lent-reads
-use Rattle.reader.proofs.read_head.Reads as read-head-reads
 
 read-head-requires : tie.Need-read-head-requires
 read-head-requires c κs = search needs

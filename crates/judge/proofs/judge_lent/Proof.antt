@@ -5,8 +5,6 @@ use native.Mathlib.Omega.{arith}
 use borrow.Author.Needs.{needs}
 use Rattle.judge.proofs.judge_lent.Statement.{statement}
 use Rattle.judge.proofs.judge_lent.Tie as tie
-use Rattle.judge.proofs.index.Reads as index-reads
-use Rattle.judge.proofs.judge_tables.Reads as judge-tables-reads
 
 index-requires : tie.Need-index-requires
 index-requires c κs = search needs

@@ -5,10 +5,6 @@ use Rattle.dispatcher.specs.StepLaws.{Reached, in-plan, is-bad-state, is
 use borrow.Author.Needs.{needs}
 use Rattle.dispatcher.proofs.State.answer_on.Statement.{statement}
 use Rattle.dispatcher.proofs.State.answer_on.Tie as tie
-use Rattle.dispatcher.proofs.State.is_impossible.Reads as is-impossible-reads
-use Rattle.dispatcher.proofs.first_high.Reads as first-high-reads
-use Rattle.dispatcher.proofs.is_over.Reads as is-over-reads
-use Rattle.dispatcher.proofs.wide.Reads as wide-reads
 
 is-impossible-requires : tie.Need-is-impossible-requires
 is-impossible-requires c κs = c .before .pre .few

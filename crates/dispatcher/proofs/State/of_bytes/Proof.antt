@@ -4,8 +4,6 @@ use Rattle.dispatcher.specs.HeadLaws.{clear-state, unclear-state}
 use borrow.Author.Needs.{needs}
 use Rattle.dispatcher.proofs.State.of_bytes.Statement.{statement}
 use Rattle.dispatcher.proofs.State.of_bytes.Tie as tie
-use Rattle.dispatcher.proofs.State.is_clear.Reads as is-clear-reads
-use Rattle.dispatcher.proofs.State.read.Reads as read-reads
 
 is-clear-requires : tie.Need-is-clear-requires
 is-clear-requires c κs = search needs

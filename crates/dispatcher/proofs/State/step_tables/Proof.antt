@@ -6,10 +6,6 @@ use Rattle.dispatcher.specs.StepLaws.{Reached, in-plan, when-shown, low-
 use borrow.Author.Needs.{needs}
 use Rattle.dispatcher.proofs.State.step_tables.Statement.{statement}
 use Rattle.dispatcher.proofs.State.step_tables.Tie as tie
-use Rattle.dispatcher.proofs.State.answer_on.Reads as answer-on-reads
-use Rattle.dispatcher.proofs.State.play.Reads as play-reads
-use Rattle.dispatcher.proofs.State.refused.Reads as refused-reads
-use Rattle.dispatcher.proofs.wide.Reads as wide-reads
 
 answer-on-requires : tie.Need-answer-on-requires
 answer-on-requires c κs = c .before .before .pre .planned
