@@ -6,15 +6,18 @@ use Prim.Native.Nat.{ℕ, _*_, _≤_}
 use native.Mathlib.Nat.{mul-le-mul}
 use lib.Dec.{eqb}
 use lib.ListN.{length}
-use borrow.Author.Tests.{eq-eqb, ne-eqb, eqb-true}
+use borrow.Author.Tests.{eq-eqb, ne-eqb, eqb-true, eqb-false}
 use Rattle.vocabulary.specs.Test.{both, clash}
 use Rattle.kinds.specs.Tasks.{Set, view}
 use Rattle.kinds.specs.Sound.{sound}
 use Rattle.reader.specs.declared.Taking.{Taking}
 use Rattle.reader.specs.declared.Shape.{Shape}
 use Rattle.reader.specs.Tables.{TaskTables, PatternTables}
-use Rattle.reader.specs.Files.{setOf, notTaken, takenOf}
-use Rattle.reader.specs.ReadLaws.{WholeHead}
+use Rattle.reader.specs.Files.{headRead, setOf, notTaken, takenOf}
+use Rattle.reader.specs.declared.Head.{Head}
+use Rattle.reader.specs.declared.Head.the-variants as head
+use Rattle.reader.specs.HeadLaws.{headOf}
+use Rattle.reader.specs.ReadLaws.{WholeHead, whole-head, left-over}
 use Rattle.judge.specs.declared.Verdict.{Verdict}
 use Rattle.judge.specs.declared.Verdict.the-variants as verdict
 use Rattle.judge.specs.Heads.{judgedOf}
@@ -27,8 +30,8 @@ use Rattle.dispatcher.specs.Bytes.{bytesOf, stateOf, unclear}
 use Rattle.dispatcher.specs.Outcome.{Outcome, writtenOf, written-is}
 use Rattle.dispatcher.specs.Tables.{Of, onAnswer, isShown, answerOn, OutcomeOn}
 use Rattle.dispatcher.specs.StepLaws.{on-refusal, answer-is}
-use Rattle.dispatcher.specs.SetLaws.{Found}
-use Rattle.dispatcher.specs.Heads.{begun, firstBytes, begunOf, nowhere, stateIn, Left, left, nextBytes, leftBy, leftFor, leftAfter}
+use Rattle.dispatcher.specs.SetLaws.{Found, tables-of}
+use Rattle.dispatcher.specs.Heads.{begun, firstBytes, begunOf, nowhere, stateIn, Left, left, nextBytes, leftBy, leftFor, leftAfter, LeftIf, AnsweredIf, LeftOn, AnsweredOn}
 
 -- ---- starting
 module _ (tasks slots state : List ℕ) where
@@ -135,18 +138,47 @@ module _ (s : Set) {m h n : ℕ} {ps os : List ℕ} (slots : List ℕ) (report :
       ∙ rw (eq-eqb (length state) 21 (right-bytes m h (length slots) (length out) (length state) e))
 
 -- ---- the head
+pub left-yes : {whole : Bool} {m p h n : ℕ} {ps os slots : List ℕ} {report : ℕ} {state out : List ℕ} {l : Left} → whole ≡ true → m ≡ p → LeftOn m h n ps os slots report state out l → LeftIf whole p h n ps os slots report state out l
+left-yes w e o = record { yes = λ q. rw e at o; not = λ q. clash w q }
+
+pub left-no : {whole : Bool} {p h n : ℕ} {ps os slots : List ℕ} {report : ℕ} {state out : List ℕ} → whole ≡ false → LeftIf whole p h n ps os slots report state out (left answer.BadSet state out)
+left-no w = record { yes = λ q. clash q w; not = λ q. refl }
+
+pub answered-yes : {whole : Bool} {m p h n : ℕ} {slots : List ℕ} {report : ℕ} {state out : List ℕ} {a : Answer} → whole ≡ true → m ≡ p → AnsweredOn m h n slots report state out a → AnsweredIf whole p h n slots report state out a
+answered-yes w e o = record { yes = λ q. rw e at o; not = λ q. clash w q }
+
+pub answered-no : {whole : Bool} {p h n : ℕ} {slots : List ℕ} {report : ℕ} {state out : List ℕ} → whole ≡ false → AnsweredIf whole p h n slots report state out answer.BadSet
+answered-no w = record { yes = λ q. clash q w; not = λ q. refl }
+
 pub no-head : (tasks slots : List ℕ) (report : ℕ) (state out : List ℕ) → takenOf tasks ≡ notTaken → left answer.BadSet state out ≡ leftAfter tasks slots report state out
 unfolding leftAfter
 no-head tasks slots report state out e = rw e
 
-module _ (tasks : List ℕ) {f : Shape} {t : TaskTables} {v : PatternTables} (w : WholeHead tasks f t v) where
-  pub head-found : {m : ℕ} → m ≡ f .processors → Found (view (setOf f t v)) m (f .ticks)
-  head-found e = record { sound = w .is-sound; processors = e; ticks = w .ticks }
+module _ (tasks : List ℕ) (t : TaskTables) (v : PatternTables) {o : Head} {f : Shape} {at m : ℕ} (read : headRead o t v ≡ headOf tasks) (here : o ≡ head.Of f at) (em : m ≡ f .processors) where
+  whole : eqb at (length tasks) ≡ true → WholeHead tasks f t v
+  whole e = whole-head tasks t v read here (eqb-true at (length tasks) e)
 
-  pub head-left : (slots : List ℕ) (report : ℕ) (state out : List ℕ) {r : Left} → r ≡ leftBy (view (setOf f t v)) slots report state out → r ≡ leftAfter tasks slots report state out
-  unfolding leftAfter
-  head-left slots report state out e = e ∙ ap (λ (x : Taking). leftFor x slots report state out) (sym (w .taken))
+  pub head-found : eqb at (length tasks) ≡ true → Found (view (setOf f t v)) m (f .ticks)
+  head-found e = let w = whole e in record { sound = w .is-sound; processors = em; ticks = w .ticks }
 
-  pub head-answered : (slots : List ℕ) (report : ℕ) (state out : List ℕ) {a : Answer} → a ≡ leftBy (view (setOf f t v)) slots report state out .answer → a ≡ leftAfter tasks slots report state out .answer
-  unfolding leftAfter
-  head-answered slots report state out e = e ∙ ap (λ (x : Taking). leftFor x slots report state out .answer) (sym (w .taken))
+  module _ (slots : List ℕ) (report : ℕ) (state out : List ℕ) where
+    taken-left : (e : eqb at (length tasks) ≡ true) → leftBy (view (setOf f t v)) slots report state out ≡ leftAfter tasks slots report state out
+    unfolding leftAfter
+    taken-left e = ap (λ (x : Taking). leftFor x slots report state out) (sym (whole e .taken))
+
+    more-left : eqb at (length tasks) ≡ false → left answer.BadSet state out ≡ leftAfter tasks slots report state out
+    more-left e = no-head tasks slots report state out (left-over tasks t v read here (eqb-false at (length tasks) e))
+
+    pub head-left : {l : Left} → LeftIf (eqb at (length tasks)) m (f .ticks) (f .tasks) (t .periods) (t .offsets) slots report state out l → l ≡ leftAfter tasks slots report state out
+    head-left {l} i = by (eqb at (length tasks)) refl
+      where
+        by : (b : Bool) → eqb at (length tasks) ≡ b → l ≡ leftAfter tasks slots report state out
+        by true e = i .yes e .of (view (setOf f t v)) (tables-of (head-found e)) ∙ taken-left e
+        by false e = i .not e ∙ more-left e
+
+    pub head-answered : {a : Answer} → AnsweredIf (eqb at (length tasks)) m (f .ticks) (f .tasks) slots report state out a → a ≡ leftAfter tasks slots report state out .answer
+    head-answered {a} i = by (eqb at (length tasks)) refl
+      where
+        by : (b : Bool) → eqb at (length tasks) ≡ b → a ≡ leftAfter tasks slots report state out .answer
+        by true e = i .yes e .of (view (setOf f t v)) (t .periods) (t .offsets) (tables-of (head-found e)) ∙ ap (λ (l : Left). l .answer) (taken-left e)
+        by false e = i .not e ∙ ap (λ (l : Left). l .answer) (more-left e)

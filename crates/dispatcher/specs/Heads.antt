@@ -1,6 +1,6 @@
 -- Starting and stepping for C: tasks and m are the bytes of a file from the edition to the last pair, and the state is 21 bytes.
 use mathlib.Core.Path.{_≡_}
-use mathlib.Core.Bool.{true}
+use mathlib.Core.Bool.{Bool, true, false}
 use mathlib.Core.List.{List}
 use Prim.Native.Nat.{ℕ}
 use lib.Dec.{eqb}
@@ -83,3 +83,12 @@ pub record LeftOn (m h n : ℕ) (ps os slots : List ℕ) (report : ℕ) (state o
 
 pub record AnsweredOn (m h n : ℕ) (slots : List ℕ) (report : ℕ) (state out : List ℕ) (a : Answer) : Type 0 where
   pub of : (s : Set) (ps os : List ℕ) → Of s m h n ps os → a ≡ leftBy s slots report state out .answer
+
+-- over the tables of a head that was read: the same where it is whole, that is, all that there was, else 10
+pub record LeftIf (whole : Bool) (m h n : ℕ) (ps os slots : List ℕ) (report : ℕ) (state out : List ℕ) (l : Left) : Type 0 where
+  pub yes : whole ≡ true → LeftOn m h n ps os slots report state out l
+  pub not : whole ≡ false → l ≡ left answer.BadSet state out
+
+pub record AnsweredIf (whole : Bool) (m h n : ℕ) (slots : List ℕ) (report : ℕ) (state out : List ℕ) (a : Answer) : Type 0 where
+  pub yes : whole ≡ true → AnsweredOn m h n slots report state out a
+  pub not : whole ≡ false → a ≡ answer.BadSet

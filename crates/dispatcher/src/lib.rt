@@ -2,6 +2,7 @@
 use judge::Verdict;
 use kinds::TaskSet;
 use reader::Head;
+use reader::Shape;
 ghost use mathlib.Core.Path.{_≡_};
 ghost use mathlib.Core.Bool.{true, false, _&&_, _||_, not};
 ghost use Prim.Native.Nat.{ℕ, _+_, _*_, _-_, _/_, _%_, _^_, _<_, _≤_};
@@ -16,7 +17,7 @@ ghost use Rattle.dispatcher.specs.Steps.{byteOf, ranOf};
 ghost use Rattle.dispatcher.specs.Refusals.{highSlot, firstState, startedOf, stepped};
 ghost use Rattle.dispatcher.specs.Bytes.{bytesOf, stateOf, unclear, number};
 ghost use Rattle.dispatcher.specs.Outcome.{Outcome, writtenOf};
-ghost use Rattle.dispatcher.specs.Heads.{firstBytes, begun, begunOf, stateIn, left, nextBytes, leftAfter, LeftOn, AnsweredOn};
+ghost use Rattle.dispatcher.specs.Heads.{firstBytes, begun, begunOf, stateIn, left, nextBytes, leftAfter, LeftOn, AnsweredOn, LeftIf, AnsweredIf};
 ghost use Rattle.dispatcher.specs.HeadLaws.{lengthsFit};
 ghost use Rattle.dispatcher.specs.Tables.{startedBy, afterOf, unfit, Timed, Planned, Lent, answerOn, OutcomeOn, timesOf, onlyOffsets, onlyCount, rowAt, keeps, Played};
 
@@ -599,6 +600,49 @@ fn answer_lent(
     s.answer_on(m, h, n, plan, report)
 }
 
+// The step over the tables of a head that was read; where the head is not whole, bytes were left over after it.
+fn step_read(
+    f: Shape,
+    whole: bool,
+    period: &[u32; 64],
+    offset: &[u32; 64],
+    plan: &[u8],
+    report: u64,
+    state: &mut [u8],
+    out: &mut [u8],
+) -> Answer
+    requires { ⌜ (whole ≡ true → (Timed (f .tasks) (f .ticks) (now period) (now offset)) × (f .processors ≤ 8)) ⌝ }
+    ensures { λ r. ⌜ LeftIf whole (f .processors) (f .ticks) (f .tasks) (now (period .entry)) (now (offset .entry)) (now (plan .entry)) report (now (state .entry)) (now (out .entry)) (left r (now (state .exit)) (now (out .exit))) ⌝ }
+{
+    if whole {
+        let m = wide(f.processors);
+        return step_lent(
+            m,
+            f.ticks,
+            f.tasks,
+            period,
+            offset,
+            plan,
+            report,
+            state,
+            out,
+        );
+    }
+    Answer::BadSet
+}
+
+// What that step answers.
+fn answer_read(f: Shape, whole: bool, plan: &[u8], report: u64, state: &[u8], out: &[u8]) -> Answer
+    requires { ⌜ (whole ≡ true → (f .tasks ≤ 64) × (f .ticks ≤ 6000) × (f .processors ≤ 8)) ⌝ }
+    ensures { λ r. ⌜ AnsweredIf whole (f .processors) (f .ticks) (f .tasks) (now (plan .entry)) report (now (state .entry)) (now (out .entry)) r ⌝ }
+{
+    if whole {
+        let m = wide(f.processors);
+        return answer_lent(m, f.ticks, f.tasks, plan, report, state, out);
+    }
+    Answer::BadSet
+}
+
 // The step for C, on tasks as the head of a file, from and to the 21 bytes of the state; a refusal leaves them and the output. It copies no set.
 pub fn step_head(tasks: &[u8], plan: &[u8], report: u64, state: &mut [u8], out: &mut [u8]) -> Answer
     ensures { λ r. ⌜ left r (now (state .exit)) (now (out .exit)) ≡ leftAfter (now (tasks .entry)) (now (plan .entry)) report (now (state .entry)) (now (out .entry)) ⌝ }
@@ -626,21 +670,8 @@ pub fn step_head(tasks: &[u8], plan: &[u8], report: u64, state: &mut [u8], out: 
     ) {
         Head::Refused(_) => Answer::BadSet,
         Head::Of(f, at) => {
-            if at != tasks.len() {
-                return Answer::BadSet;
-            }
-            let m = wide(f.processors);
-            step_lent(
-                m,
-                f.ticks,
-                f.tasks,
-                &period,
-                &offset,
-                plan,
-                report,
-                state,
-                out,
-            )
+            let whole = at == tasks.len();
+            step_read(f, whole, &period, &offset, plan, report, state, out)
         }
     }
 }
@@ -672,11 +703,8 @@ pub fn step_answer(tasks: &[u8], plan: &[u8], report: u64, state: &[u8], out: &[
     ) {
         Head::Refused(_) => Answer::BadSet,
         Head::Of(f, at) => {
-            if at != tasks.len() {
-                return Answer::BadSet;
-            }
-            let m = wide(f.processors);
-            answer_lent(m, f.ticks, f.tasks, plan, report, state, out)
+            let whole = at == tasks.len();
+            answer_read(f, whole, plan, report, state, out)
         }
     }
 }

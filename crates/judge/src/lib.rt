@@ -13,9 +13,12 @@ ghost use Rattle.judge.specs.Judgement.{verdictOf};
 ghost use Rattle.judge.specs.Keys.{timesOf, Fit};
 ghost use Rattle.judge.specs.Asked.{Asked};
 ghost use Rattle.judge.specs.Ways.{misplacedVerdict, rowsVerdict, slotsVerdict, lengthVerdict, Held};
-ghost use Rattle.judge.specs.Heads.{judgedOf};
+ghost use Rattle.reader.specs.Tables.{taskTables, patternTables};
+ghost use Rattle.reader.specs.Files.{setOf};
+ghost use Rattle.judge.specs.Heads.{judgedOf, wholeVerdict};
 use kinds::TaskSet;
 use reader::Head;
+use reader::Shape;
 
 mod counts;
 mod high;
@@ -269,6 +272,45 @@ pub fn judge(set: TaskSet, plan: &[u8]) -> Verdict
     )
 }
 
+// The verdict over the tables of a head that was read; where the head is not whole, bytes were left over after it.
+fn judge_read(
+    slots: &[u8],
+    f: Shape,
+    whole: bool,
+    period: &[u32; 64],
+    running: &[u32; 64],
+    offset: &[u32; 64],
+    deadline: &[u32; 64],
+    from: &[u32; 64],
+    to: &[u32; 64],
+    pairs: &[u32; 64],
+    first: &[u16; 1024],
+    second: &[u16; 1024],
+) -> Verdict
+    requires { ⌜ (whole ≡ true → Held (tasksOf (f .tasks) (now period) (now running) (now offset) (now deadline)) (patternsOf (f .patterns) (now from) (now to) (now pairs) (now first) (now second)) (f .processors) (f .ticks)) ⌝ }
+    ensures { λ r. ⌜ r ≡ wholeVerdict whole (view (setOf f (taskTables (now (period .entry)) (now (running .entry)) (now (offset .entry)) (now (deadline .entry))) (patternTables (now (from .entry)) (now (to .entry)) (now (pairs .entry)) (now (first .entry)) (now (second .entry))))) (f .ticks) (now (slots .entry)) ⌝ }
+{
+    if whole {
+        return judge_lent(
+            slots,
+            f.processors,
+            f.ticks,
+            f.tasks,
+            period,
+            running,
+            offset,
+            deadline,
+            f.patterns,
+            from,
+            to,
+            pairs,
+            first,
+            second,
+        );
+    }
+    Verdict::BadSet
+}
+
 // The verdict on a set that is given as the head of a file; bytes that are no head, or more than one, are 10. It copies no set.
 pub fn judge_head(tasks: &[u8], plan: &[u8]) -> Verdict
     ensures { λ r. ⌜ r ≡ judgedOf (now (tasks .entry)) (now (plan .entry)) ⌝ }
@@ -295,27 +337,20 @@ pub fn judge_head(tasks: &[u8], plan: &[u8]) -> Verdict
         &mut second,
     ) {
         Head::Refused(_) => Verdict::BadSet,
-        Head::Of(f, at) => {
-            if at != tasks.len() {
-                return Verdict::BadSet;
-            }
-            judge_lent(
-                plan,
-                f.processors,
-                f.ticks,
-                f.tasks,
-                &period,
-                &running,
-                &offset,
-                &deadline,
-                f.patterns,
-                &from,
-                &to,
-                &pairs,
-                &first,
-                &second,
-            )
-        }
+        Head::Of(f, at) => judge_read(
+            plan,
+            f,
+            at == tasks.len(),
+            &period,
+            &running,
+            &offset,
+            &deadline,
+            &from,
+            &to,
+            &pairs,
+            &first,
+            &second,
+        ),
     }
 }
 

@@ -1,7 +1,6 @@
-use mathlib.Core.Path.{sym}
+use mathlib.Core.Path.{refl, sym}
 use Rattle.reader.specs.Turns.{taken-refused}
-use Rattle.reader.specs.ReadLaws.{whole-head, left-over}
-use Rattle.dispatcher.specs.SetLaws.{tables-of, timed-of, narrow}
+use Rattle.dispatcher.specs.SetLaws.{timed-of, narrow}
 use Rattle.dispatcher.specs.HeadLaws.{no-head, head-found, head-left}
 use borrow.Author.Needs.{needs}
 use Rattle.dispatcher.proofs.step_head.Statement.{statement}
@@ -16,19 +15,11 @@ enum-told c = search needs
 enum-known-f : tie.Need-enum-known-f
 enum-known-f c = search needs
 
+step-read-requires : tie.Need-step-read-requires
+step-read-requires c κs = λ e. let f = head-found _ _ _ (c .before .before .before .before .before .before .before .read-head .ensures) (c .before .before .before .before .before .f .given .1) refl e in (timed-of f, narrow f)
+
 returns : tie.Need-returns
-returns c = no-head _ _ _ _ _ (left-over _ _ _ (c .before .before .before .before .read-head .ensures) (c .before .before .f .given .1) (c .if1 .taken))
-
-wide-requires : tie.Need-wide-requires
-wide-requires c κs = search needs
-
-step-lent-requires : tie.Need-step-lent-requires
-step-lent-requires c κs =
-    let f = head-found _ (whole-head _ _ _ (c .before .before .before .before .before .before .before .before .before .read-head .ensures) (c .before .before .before .before .before .before .before .f .given .1) (c .before .before .before .before .before .if1 .left)) (c .before .before .before .before .wide .ensures .0) in
-    (timed-of f, narrow f)
-
-returns-2 : tie.Need-returns-2
-returns-2 c = no-head _ _ _ _ _ (sym (taken-refused _ _ _ (c .before .before .read-head .ensures) (c .enum-told .given .1)))
+returns c = no-head _ _ _ _ _ (sym (taken-refused _ _ _ (c .before .before .read-head .ensures) (c .enum-told .given .1)))
 
 same-length : tie.Need-same-length
 same-length c = search needs
@@ -36,10 +27,8 @@ same-length c = search needs
 same-length-2 : tie.Need-same-length-2
 same-length-2 c = search needs
 
-returns-3 : tie.Need-returns-3
-returns-3 c =
-    let w = whole-head _ _ _ (c .before .before .before .before .before .before .before .before .before .before .before .before .before .before .read-head .ensures) (c .before .before .before .before .before .before .before .before .before .before .before .before .f .given .1) (c .before .before .before .before .before .before .before .before .before .before .if1 .left) in
-    head-left _ w _ _ _ _ (c .before .before .before .before .step-lent .ensures .of _ (tables-of (head-found _ w (c .before .before .before .before .before .before .before .before .before .wide .ensures .0))))
+returns-2 : tie.Need-returns-2
+returns-2 c = head-left _ _ _ (c .before .before .before .before .before .before .before .before .before .before .before .before .read-head .ensures) (c .before .before .before .before .before .before .before .before .before .before .f .given .1) refl _ _ _ _ (c .before .before .before .before .step-read .ensures)
 
 pub step-head-spec : {M : Type 1} → statement M
 step-head-spec =
@@ -48,10 +37,8 @@ step-head-spec =
     read-head-requires
     enum-told
     enum-known-f
+    step-read-requires
     returns
-    wide-requires
-    step-lent-requires
-    returns-2
     same-length
     same-length-2
-    returns-3)
+    returns-2)
