@@ -78,7 +78,7 @@ for input in tests/runs/*/*.in; do
 done
 echo "stored runs of programs: $same passed, $other failed"
 
-count 'source 003, adjusted times' python3 tests/tables.py
+count 'source 003, adjusted times' env RUN="$run_kit" python3 tests/tables.py
 
 # The entry for people runs a program on a file, and ends with 2 where the arguments are wrong.
 ./flute judge >/dev/null 2>&1
