@@ -4,10 +4,9 @@
 set -eu
 cd "$(dirname "$0")/.."
 mkdir -p target/bench
-[ "${STAND_IN:-0}" = 1 ] || rt staticlib flute >target/bench/build.log 2>&1 || { cat target/bench/build.log; exit 1; }
 . tests/platform.sh
-with="bench/plain.c $archive"
-[ "${STAND_IN:-0}" = 1 ] && with=$stand_in
+build_archive target/bench
+[ "$with" = "$archive" ] && with="bench/plain.c $archive"
 $cc -O3 bench/bench.c $with -o target/bench/bench
 
 cat <<PAGE

@@ -5,10 +5,8 @@
 set -eu
 cd "$(dirname "$0")/.."
 mkdir -p target/examples
-[ "${STAND_IN:-0}" = 1 ] || rt staticlib flute >target/examples/build.log 2>&1 || { cat target/examples/build.log; exit 1; }
 . tests/platform.sh
-with=$archive
-[ "${STAND_IN:-0}" = 1 ] && with=$stand_in
+build_archive target/examples
 $cc -O2 examples/executive.c $with -o target/examples/executive
 [ $# -gt 0 ] || set -- examples/*.plan
 for plan; do

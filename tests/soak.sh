@@ -4,9 +4,7 @@
 set -eu
 cd "$(dirname "$0")/.."
 mkdir -p target/outside
-[ "${STAND_IN:-0}" = 1 ] || rt staticlib flute >target/outside/build.log 2>&1 || { cat target/outside/build.log; exit 1; }
 . tests/platform.sh
-with=$archive
-[ "${STAND_IN:-0}" = 1 ] && with=$stand_in
+build_archive target/outside
 $cc -O3 tests/soak.c $with -o target/outside/soak
 time $run target/outside/soak "$@"
