@@ -243,11 +243,13 @@ def edit_sections(refused, lines, crates):
 
 
 def outside_section(lines):
-    rows, met, seed = [], [], None
+    rows, met, seed, told = [], [], None, []
     for x in lines:
         case = re.match(r'(.+): (\d+) passed, (\d+) failed$', x)
         if case:
             rows.append((case[1], f'{int(case[2]) + int(case[3]):,}', case[3]))
+        if re.match(r'\d+ of \d+ numbers are held to', x):
+            told.append(f'Source 003 adjusts times by rules that differ in part: {x}.')
         if re.match(r'seed \d+$', x):
             seed = x.split()[1]
         if re.match(r'\w+, \d+ calls:', x):
@@ -260,8 +262,10 @@ def outside_section(lines):
     out += paragraph('Beside the proofs, the archive that goes into the controller was linked into C programs and run. "Plain C" is a second program, written from document 01',
                      'alone; it answers the same outside cases, so that it is a fair judge of the random ones.')
     out += table(['cases', '>run', '>differed'], rows)
+    for x in told:
+        out += [''] + paragraph(x)
     if met:
-        out += ['', f'The random cases, from seed {seed}, by the number that was answered:', ''] + met + ['']
+        out += ([''] if out[-1] else []) + [f'The random cases, from seed {seed}, by the number that was answered:', ''] + met + ['']
         out += paragraph('Every buffer in them stood at the edge of memory that may be touched: a byte read or written outside, a byte changed in what was lent for reading, or a byte',
                          'changed by a refused call would have been counted as a difference.')
     return out + ([''] if out[-1] else [])
