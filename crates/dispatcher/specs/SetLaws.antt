@@ -4,20 +4,18 @@ use mathlib.Core.Bool.{true, false}
 use mathlib.Core.List.{List}
 use Prim.Native.Nat.{ℕ, _*_, _≤_}
 use native.Mathlib.Nat.{le-of-dvd, lt-of-lt-of-le, mul-le-mul}
-use native.Mathlib.Omega.{arith}
 use lib.Dec.{eqb}
-use lib.ListN.{getD, length}
-use borrow.Author.Tests.{eq-eqb, ne-eqb, le-leb}
-use Rattle.vocabulary.specs.Least.{all-from}
+use lib.ListN.{length}
+use borrow.Author.Tests.{eq-eqb, ne-eqb}
 use Rattle.kinds.specs.declared.Cycle.{Cycle}
-use Rattle.kinds.specs.Limits.{holds, periods}
-use Rattle.kinds.specs.Tasks.{Tasks, Set, period}
-use Rattle.kinds.specs.Cycle.{cycle, jobs, jobsBefore, jobsOf, cycleFits, onlyPeriods, periodsFit, cycleOf}
+use Rattle.kinds.specs.Limits.{periods}
+use Rattle.kinds.specs.Tasks.{Set}
+use Rattle.kinds.specs.Cycle.{cycle, cycleOf}
 use Rattle.kinds.specs.Sound.{sound}
 use Rattle.kinds.specs.Facts.{Sound, sound-facts}
-use Rattle.kinds.specs.Laws.{holds-yes}
 use Rattle.judge.specs.declared.Verdict.{Verdict}
 use Rattle.judge.specs.Judgement.{verdictOf}
+use Rattle.judge.specs.Ways.{cycle-found}
 use Rattle.dispatcher.specs.declared.State.{State}
 use Rattle.dispatcher.specs.declared.Started.{Started}
 use Rattle.dispatcher.specs.declared.Answer.the-variants as answer
@@ -26,26 +24,9 @@ use Rattle.dispatcher.specs.Refusals.{startedOf, byCases, stepped, stepp
 use Rattle.dispatcher.specs.Outcome.{Outcome}
 use Rattle.dispatcher.specs.Tables.{startedBy, Of, Timed, Lent}
 
--- the cycle of a sound set
-bare-fits : (u : Tasks) → cycle u ≤ 6000 → jobs u ≤ 2048 → cycleFits (onlyPeriods (u .periods) (u .count)) ≡ true
-unfolding cycleFits jobs jobsBefore jobsOf cycle
-bare-fits u a b = rw (le-leb _ _ a, le-leb _ _ b)
-
-bare-cycle : (u : Tasks) → cycle (onlyPeriods (u .periods) (u .count)) ≡ cycle u
-unfolding cycle
-bare-cycle u = refl
-
+-- the cycle of a sound set, as the code finds it
 pub sound-ticks : (s : Set) → sound s ≡ true → {r : Cycle} → r ≡ cycleOf (s .tasks .periods) (s .tasks .count) → r .ticks ≡ cycle (s .tasks)
-unfolding cycleOf periodsFit
-sound-ticks s t e =
-    let u : Tasks = s .tasks in
-    let f : Sound s = sound-facts s t in
-    ap (λ (x : Cycle). x .ticks) e
-    ∙ rw (
-      le-leb (u .count) 64 (f .few-tasks),
-      all-from (λ i. holds periods (getD (u .periods) i 0)) (u .count) (λ i l. holds-yes 1 6001 (period u i) (f .some-period i l) (let g = f .low-period i l in omega arith)),
-      bare-fits u (f .low-cycle) (f .few-jobs),
-    ) (bare-cycle u)
+sound-ticks s t e = ap (λ (x : Cycle). x .ticks) e ∙ cycle-found s (sound-facts s t)
 
 -- a sound set with m and H as the code has them
 pub record Found (s : Set) (m h : ℕ) : Type 0 where
