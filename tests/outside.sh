@@ -80,12 +80,12 @@ echo "stored runs of programs: $same passed, $other failed"
 
 count 'source 003, adjusted times' env RUN="$run_kit" python3 tests/tables.py
 
-# The entry for people runs a program on a file, and ends with 2 where the arguments are wrong.
+# The entry for people runs a program on a file, and ends with 2 where the arguments are wrong. Its progress, where it builds first, is on standard error.
 ./flute judge >/dev/null 2>&1
 wrong=$?
 same=0 other=0
 [ "$wrong" -eq 2 ] || { failed=$((failed + 1)) other=1; echo './flute takes wrong arguments'; }
-stored './flute judge' tests/runs/flute_judge/case_a.out ./flute judge examples/case_a.plan
+stored './flute judge' tests/runs/flute_judge/case_a.out sh -c './flute judge examples/case_a.plan 2>/dev/null'
 echo "entry for people: $same passed, $other failed"
 echo "$passed passed, $failed failed"
 [ "$failed" -eq 0 ]
