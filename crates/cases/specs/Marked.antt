@@ -5,6 +5,7 @@ use Prim.Native.Nat.{ℕ}
 use lib.IntN.{ℤ, pos, subℕ}
 use lib.ListN.{set, drop}
 use Rattle.vocabulary.specs.Least.{least, all}
+use Rattle.vocabulary.specs.First.{firstOf}
 use Rattle.vocabulary.specs.Count.{count}
 use Rattle.vocabulary.specs.Total.{total}
 use Rattle.vocabulary.specs.Table.{table, join, gather}
@@ -24,7 +25,7 @@ use Rattle.reader.specs.Numbers.{numberAt, held, gotAt, andThen}
 use Rattle.reader.specs.Tables.{taskFrom, onTask, tasksFrom, twoAt, onTwo, pairsFrom, onTwoHeading, headingAt, onHeading, onPairs, patternsFrom}
 use Rattle.reader.specs.Files.{openingOf, middleFrom, onOpening, onTasks, onMiddle, onPatterns, headFrom, slotsFrom, onSlots, onHead, readOf}
 use Rattle.judge.specs.Rules.{high, twin, mated, clashes, strays, strayed, miscounts, miscounted, against, bars, broken, breaks, brokenPair, brokenPattern}
-use Rattle.judge.specs.Judgement.{highAt, twiceAt, outsideAt, wrongAt, brokenAt, verdictOf}
+use Rattle.judge.specs.Judgement.{highAt, twiceAt, outsideAt, wrongAt, brokenAt, planRules, rules, verdictOf}
 use Rattle.screen.specs.Network.{pairLinks, patternLinks, cycleLinks, linkStarts, linkEnds, network}
 use Rattle.screen.specs.Times.{ownRelease, ownDue, ownRunning, releaseWeight, adjustedRelease, adjustedDeadline}
 use Rattle.screen.specs.Findings.{onCycle, load, room, tight, findingOf}
@@ -124,5 +125,5 @@ cases =
 
 -- ==== The definitions answer every marked case as document 01 prints it.
 marked-cases : map (λ (c : Question × Reply). reply (c .0)) cases ≡ map (λ (c : Question × Reply). c .1) cases
-unfolding cases fileA setA slotsA setC slotsC setD setG setH setI setJ setK minus reply numberReply setOf silence reportAfter least all count total table join gather has pack lcm lcmOf reach loops longest.most longest.entry longest.rounds soonest.fewest soonest.due soonest.soonest holds rises pairsBefore cycle jobsOf jobsBefore jobs cycleFits release due inWindow numberOfJob taskOfJob jobOfJob common linkFrom linkTo repeats linksOf links inner spansOf linksIn attributesFit taskFits pairKey pairFits patternKey headingFits patternFits openingFits sound slot shows shown awake runs ticks numberAt held gotAt andThen taskFrom onTask tasksFrom twoAt onTwo pairsFrom onTwoHeading headingAt onHeading onPairs patternsFrom openingOf middleFrom onOpening onTasks onMiddle onPatterns headFrom slotsFrom onSlots onHead readOf high twin mated clashes strays strayed miscounts miscounted against bars broken breaks brokenPair brokenPattern highAt twiceAt outsideAt wrongAt brokenAt verdictOf pairLinks patternLinks cycleLinks linkStarts linkEnds network ownRelease ownDue ownRunning releaseWeight adjustedRelease adjustedDeadline onCycle load room tight findingOf releases heard doneAt doneOf asleep byteOf rowOf standsAt inRow ranOf stepOf stateAt shownAt
+unfolding cases fileA setA slotsA setC slotsC setD setG setH setI setJ setK minus reply numberReply setOf silence reportAfter least all count total table join gather has pack lcm lcmOf reach loops longest.most longest.entry longest.rounds soonest.fewest soonest.due soonest.soonest holds rises pairsBefore cycle jobsOf jobsBefore jobs cycleFits release due inWindow numberOfJob taskOfJob jobOfJob common linkFrom linkTo repeats linksOf links inner spansOf linksIn attributesFit taskFits pairKey pairFits patternKey headingFits patternFits openingFits sound slot shows shown awake runs ticks numberAt held gotAt andThen taskFrom onTask tasksFrom twoAt onTwo pairsFrom onTwoHeading headingAt onHeading onPairs patternsFrom openingOf middleFrom onOpening onTasks onMiddle onPatterns headFrom slotsFrom onSlots onHead readOf high twin mated clashes strays strayed miscounts miscounted against bars broken breaks brokenPair brokenPattern highAt twiceAt outsideAt wrongAt brokenAt firstOf planRules rules verdictOf pairLinks patternLinks cycleLinks linkStarts linkEnds network ownRelease ownDue ownRunning releaseWeight adjustedRelease adjustedDeadline onCycle load room tight findingOf releases heard doneAt doneOf asleep byteOf rowOf standsAt inRow ranOf stepOf stateAt shownAt
 marked-cases = refl

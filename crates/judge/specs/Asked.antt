@@ -1,7 +1,7 @@
 -- What the rules from 12 on ask: a sound set, its cycle, and a plan of the right length. From it comes what each part of the judge asks.
-use mathlib.Core.Path.{_≡_, ap}
+use mathlib.Core.Path.{_≡_}
 use mathlib.Core.List.{List}
-use Prim.Native.Nat.{ℕ, suc, _+_, _*_, _≤_}
+use Prim.Native.Nat.{ℕ, _*_, _≤_}
 use native.Mathlib.Nat.{div-mul-cancel}
 use native.Mathlib.Omega.{arith}
 use lib.ListN.{getD, length}
@@ -11,11 +11,9 @@ use Rattle.kinds.specs.Jobs.{release, due, inWindow, numberOfJob}
 use Rattle.kinds.specs.Plans.{Plan, awake, runs, ticks}
 use Rattle.kinds.specs.Valid.{TickOf}
 use Rattle.kinds.specs.Facts.{Sound}
-use Rattle.laws.specs.Order.{before-suc, before-up}
 use Rattle.judge.specs.Gets.{Gets, Told}
-use Rattle.judge.specs.Keys.{timesOf, Fit, Based}
+use Rattle.judge.specs.Keys.{timesOf, Fit}
 use Rattle.judge.specs.Starts.{Countable}
-use Rattle.judge.specs.Counts.{Tabled}
 
 -- The edition is not looked at, so any will do under which the set is sound.
 pub record Asked (u : Tasks) (v : Patterns) (p : Plan) : Type 0 where
@@ -105,14 +103,4 @@ countable u v p a =
       period = f .some-period;
       room = λ i l. rw (a .ticks) (omega (arith, div-mul-cancel (period u i) (f .divides i l), f .offset-low i l, f .low-period i l, f .low-cycle));
       jobs = rw (a .ticks) (f .few-jobs);
-    }
-
-pub tabled : (u : Tasks) (v : Patterns) (p : Plan) (bs : List ℕ) → Asked u v p → Based u bs → Tabled (p .cycle) (u .count) (u .periods) bs
-unfolding jobs jobsOf
-tabled u v p bs a g =
-    let f = a .sound in
-    record {
-      few = f .few-tasks;
-      period = f .some-period;
-      room = λ i l. rw (a .ticks) (omega (arith, g .each i l, before-suc u i, before-up u (i + 1) (u .count) (omega arith), f .few-jobs, ap (jobsBefore u) (let z : i + 1 ≡ suc i = omega arith in z)));
     }

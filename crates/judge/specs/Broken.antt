@@ -12,13 +12,9 @@ use Rattle.kinds.specs.Tasks.{Tasks, deadline}
 use Rattle.kinds.specs.Jobs.{release}
 use Rattle.kinds.specs.Plans.{Plan, runs}
 use Rattle.kinds.specs.Valid.{TickOf, LinkKept}
-use Rattle.laws.specs.Repeat.{runs-shown}
-use Rattle.laws.specs.Window.{tick-at, tick-is}
+use Rattle.laws.specs.Window.{tick-is}
 use Rattle.judge.specs.Rules.{against, bars, broken}
-use Rattle.judge.specs.Gets.{Gets}
-
-to-tick : (u : Tasks) (p : Plan) (i k x : ℕ) → x < deadline u i → runs u p i (release u i k + x) ≡ true → TickOf u p i k (release u i k + x)
-to-tick u p i k x l e = tick-at u p i k (release u i k + x) (omega arith) (omega arith) (runs-shown u p i (release u i k + x) e .1)
+use Rattle.judge.specs.Gets.{Gets, to-tick}
 
 of-tick : (u : Tasks) (p : Plan) (i k x : ℕ) → TickOf u p i k x → release u i k + (x - release u i k) ≡ x
 of-tick u p i k x t = omega (arith, tick-is u p i k x t .0)

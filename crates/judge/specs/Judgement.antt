@@ -1,11 +1,11 @@
 -- The verdict: the rules in their order, and for each the lowest evidence.
 use mathlib.Core.Bool.{not}
-use mathlib.Core.List.{List}
+use mathlib.Core.List.{List, [], _∷_}
 use Prim.Native.Nat.{ℕ, _*_}
 use lib.Dec.{eqb}
 use lib.ListN.{length}
-use Rattle.vocabulary.specs.Test.{pick}
 use Rattle.vocabulary.specs.Least.{least, some}
+use Rattle.vocabulary.specs.First.{Rule, rule, firstOf, from}
 use Rattle.kinds.specs.Tasks.{Tasks, Patterns, Set, pairCount}
 use Rattle.kinds.specs.Cycle.{cycle, jobsOf}
 use Rattle.kinds.specs.Links.{repeats}
@@ -16,8 +16,8 @@ use Rattle.judge.specs.declared.Verdict.the-variants as verdict
 use Rattle.judge.specs.Rules.{high, twin, mated, clashes, strays, strayed, miscounts, miscounted, breaks, brokenPair, brokenPattern}
 
 -- "Lowest means by task, then job; by tick, then processors; by pattern, pair, k."
-unfoldable pub highAt : Set → List ℕ → Verdict
-highAt s slots = verdict.BadSlot (least (high slots (s .tasks .count)) (length slots))
+unfoldable pub highAt : Tasks → Plan → Verdict
+highAt u p = verdict.BadSlot (least (high (p .slots) (u .count)) (length (p .slots)))
 
 unfoldable pub twiceAt : Plan → Verdict
 twiceAt p =
@@ -40,17 +40,26 @@ brokenAt u v p =
     let q : ℕ = least (brokenPair u v p k) (pairCount v k) in
     verdict.BrokenLink k q (least (breaks u v p k q) (repeats u v k))
 
--- "Judge: 10, 11, 12, 20, 21, 22, 23, else accepted."
+-- "Judge: 10, 11, 12, 20, 21, 22, 23, else accepted.": the rules in their order. Those of a plan of the right length for a sound set,
+unfoldable pub planRules : Tasks → Patterns → Plan → List (Rule Verdict)
+planRules u v p =
+    rule 12 (some (high (p .slots) (u .count)) (length (p .slots))) (highAt u p)
+    ∷ rule 20 (some (clashes p) (p .cycle)) (twiceAt p)
+    ∷ rule 21 (some (strayed u p) (p .cycle)) (outsideAt u p)
+    ∷ rule 22 (some (miscounted u p) (u .count)) (wrongAt u p)
+    ∷ rule 23 (some (brokenPattern u v p) (v .count)) (brokenAt u v p)
+    ∷ []
+
+-- and before them those that see to it.
+unfoldable pub rules : Set → List ℕ → List (Rule Verdict)
+rules s slots =
+    rule 10 (not (sound s)) verdict.BadSet
+    ∷ rule 11 (not (eqb (length slots) (s .processors * cycle (s .tasks)))) verdict.WrongLength
+    ∷ planRules (s .tasks) (s .patterns) (planOf s slots)
+
 unfoldable pub verdictOf : Set → List ℕ → Verdict
-verdictOf s slots =
-    let u : Tasks = s .tasks in
-    let v : Patterns = s .patterns in
-    let p : Plan = planOf s slots in
-    pick (not (sound s)) verdict.BadSet
-    (pick (not (eqb (length slots) (s .processors * cycle u))) verdict.WrongLength
-    (pick (some (high slots (u .count)) (length slots)) (highAt s slots)
-    (pick (some (clashes p) (p .cycle)) (twiceAt p)
-    (pick (some (strayed u p) (p .cycle)) (outsideAt u p)
-    (pick (some (miscounted u p) (u .count)) (wrongAt u p)
-    (pick (some (brokenPattern u v p) (v .count)) (brokenAt u v p)
-    verdict.Accepted))))))
+verdictOf s slots = firstOf (rules s slots) verdict.Accepted
+
+-- What the code's parts answer: the verdict by a plan's rules from rule n on.
+unfoldable pub verdictFrom : ℕ → Tasks → Patterns → Plan → Verdict
+verdictFrom n u v p = firstOf (from n (planRules u v p)) verdict.Accepted

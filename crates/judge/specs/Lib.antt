@@ -9,12 +9,11 @@ pub mod Row
 pub mod Sweep
 pub mod High
 pub mod Starts
+pub mod Got
 pub mod Counts
 pub mod Broken
 pub mod Stray
-pub mod Crossed
 pub mod Asked
 pub mod Linked
 pub mod Ways
-pub mod Order
 pub mod Heads

@@ -3,56 +3,38 @@ use mathlib.Core.Path.{_≡_, refl, sym, ap, ap₂, _∙_}
 use mathlib.Core.Bool.{Bool, true, false, not}
 use mathlib.Core.List.{List}
 use mathlib.Core.Logic.{_⊎_, inl, inr}
-use Prim.Native.Nat.{ℕ, _+_, _*_, _/_, _<_, _≤_}
-use native.Mathlib.Nat.{div-le-self, mul-le-mul}
+use Prim.Native.Nat.{ℕ, _*_, _<_, _≤_}
+use native.Mathlib.Nat.{mul-le-mul}
 use native.Mathlib.Omega.{arith}
 use lib.Dec.{eqb}
 use lib.ListN.{getD, length}
 use borrow.Author.Tests.{eq-eqb, ne-eqb}
 use Rattle.vocabulary.specs.Test.{pick, clash}
+use Rattle.vocabulary.specs.First.{firstOf, from}
 use Rattle.vocabulary.specs.Least.{least, least-is, some, some-at, some-lt, some-ge, none, all, all-from}
 use Rattle.kinds.specs.Limits.{holds, periods}
-use Rattle.kinds.specs.Tasks.{Tasks, Patterns, Set, period, running}
+use Rattle.kinds.specs.Tasks.{Tasks, Patterns, Set}
 use Rattle.kinds.specs.Cycle.{cycle, jobsOf, jobsBefore, jobs, onlyPeriods, cycleOf}
-use Rattle.kinds.specs.Jobs.{numberOfJob}
-use Rattle.kinds.specs.Plans.{Plan, plan, ticks}
+use Rattle.kinds.specs.Plans.{Plan, plan}
 use Rattle.kinds.specs.Sound.{sound}
 use Rattle.kinds.specs.Facts.{Sound, sound-facts}
 use Rattle.kinds.specs.Laws.{holds-yes, cycle-some}
 use Rattle.judge.specs.declared.Verdict.{Verdict}
 use Rattle.judge.specs.declared.Verdict.the-variants as verdict
-use Rattle.judge.specs.Rules.{high, twin, mated, clashes, strays, strayed, miscounts, miscounted}
-use Rattle.judge.specs.Judgement.{highAt, twiceAt, outsideAt, wrongAt, verdictOf}
-use Rattle.judge.specs.Gets.{Told}
+use Rattle.judge.specs.Rules.{high, twin, mated, clashes, strays, strayed, miscounted}
+use Rattle.judge.specs.Judgement.{highAt, twiceAt, outsideAt, wrongAt, planRules, verdictFrom, rules, verdictOf}
 use Rattle.judge.specs.Keys.{Fit, Based}
 use Rattle.judge.specs.Sweep.{Swept}
 use Rattle.judge.specs.High.{all-low}
-use Rattle.judge.specs.Counts.{differs, differing, miscounts-is, miscounted-is, all-counted}
-use Rattle.judge.specs.Asked.{Asked, fit-asked, times, told-times, tabled}
-use Rattle.judge.specs.Linked.{linksVerdict, crossings-are}
-use Rattle.judge.specs.Crossed.{crossings}
-
--- Rule 22 and what is behind it.
-unfoldable pub countsVerdict : Tasks → Patterns → Plan → Verdict
-countsVerdict u v p = pick (some (miscounted u p) (u .count)) (wrongAt u p) (linksVerdict u v p)
-
--- Rules 20 and 21 and what is behind them.
-unfoldable pub rowsVerdict : Tasks → Patterns → Plan → Verdict
-rowsVerdict u v p =
-    pick (some (clashes p) (p .cycle)) (twiceAt p)
-    (pick (some (strayed u p) (p .cycle)) (outsideAt u p)
-    (countsVerdict u v p))
-
--- Rule 12 and what is behind it.
-unfoldable pub slotsVerdict : Tasks → Patterns → Plan → Verdict
-slotsVerdict u v p =
-    pick (some (high (p .slots) (u .count)) (length (p .slots))) (verdict.BadSlot (least (high (p .slots) (u .count)) (length (p .slots))))
-    (rowsVerdict u v p)
+use Rattle.judge.specs.Asked.{Asked, fit-asked, times, told-times}
+use Rattle.judge.specs.Got.{Tallied}
+use Rattle.judge.specs.Counts.{Counted, OneWrong, wrongIn, all-counted}
+use Rattle.judge.specs.Linked.{Chained, Linked}
 
 -- ---- 10 and 11
 module _ (s : Set) (slots : List ℕ) where
   pub bad-set : sound s ≡ false → verdict.BadSet ≡ verdictOf s slots
-  unfolding verdictOf
+  unfolding verdictOf rules firstOf
   bad-set e = rw e
 
 -- The code finds the cycle of a sound set.
@@ -66,7 +48,7 @@ cycle-found s f =
 
 -- Rule 11 and what is behind it, for m processors and a cycle of h ticks.
 unfoldable pub lengthVerdict : Tasks → Patterns → ℕ → ℕ → List ℕ → Verdict
-lengthVerdict u v m h slots = pick (not (eqb (length slots) (m * h))) verdict.WrongLength (slotsVerdict u v (plan slots m h))
+lengthVerdict u v m h slots = pick (not (eqb (length slots) (m * h))) verdict.WrongLength (verdictFrom 12 u v (plan slots m h))
 
 -- Tables of a set that is sound under some edition, with its processors and its cycle.
 pub record Held (u : Tasks) (v : Patterns) (m h : ℕ) : Type 0 where
@@ -78,7 +60,7 @@ pub set-held : (s : Set) (h : ℕ) → sound s ≡ true → h ≡ cycleOf (s .ta
 set-held s h e c = record { edition = s .edition; is-sound = e; ticks = c ∙ cycle-found s (sound-facts s e) }
 
 pub held-verdict : (s : Set) (slots : List ℕ) (h : ℕ) → sound s ≡ true → h ≡ cycle (s .tasks) → lengthVerdict (s .tasks) (s .patterns) (s .processors) h slots ≡ verdictOf s slots
-unfolding lengthVerdict verdictOf slotsVerdict rowsVerdict countsVerdict linksVerdict highAt
+unfolding lengthVerdict verdictOf rules verdictFrom planRules from firstOf
 held-verdict s slots h e c = rw (e, c)
 
 -- The same with the numbers that the code has: w is m, and x is h.
@@ -109,21 +91,21 @@ module _ (u : Tasks) (v : Patterns) (m h : ℕ) (slots : List ℕ) (w x : ℕ) (
         long = q ∙ ap (λ (y : ℕ). w * y) ex;
       }
 
-  pub judged : length slots ≡ w * x → slotsVerdict u v (plan slots w h) ≡ lengthVerdict u v m h slots
+  pub judged : length slots ≡ w * x → verdictFrom 12 u v (plan slots w h) ≡ lengthVerdict u v m h slots
   unfolding lengthVerdict
   judged q = rw (ew, eq-eqb (length slots) (m * h) (q ∙ product))
 
 -- ---- 12
 module _ (u : Tasks) (v : Patterns) (p : Plan) (e : ℕ) (q : e ≡ least (high (p .slots) (u .count)) (length (p .slots))) where
-  pub high-slot : e < length (p .slots) → verdict.BadSlot e ≡ slotsVerdict u v p
-  unfolding slotsVerdict
+  pub high-slot : e < length (p .slots) → verdict.BadSlot e ≡ verdictFrom 12 u v p
+  unfolding verdictFrom planRules from firstOf highAt
   high-slot l = rw (some-lt (high (p .slots) (u .count)) (length (p .slots)) e q l, ← q)
 
   none-high : length (p .slots) ≤ e → some (high (p .slots) (u .count)) (length (p .slots)) ≡ false
   none-high l = some-ge (high (p .slots) (u .count)) (length (p .slots)) e q l
 
-  pub low-slots : length (p .slots) ≤ e → rowsVerdict u v p ≡ slotsVerdict u v p
-  unfolding slotsVerdict
+  pub low-slots : length (p .slots) ≤ e → verdictFrom 20 u v p ≡ verdictFrom 12 u v p
+  unfolding verdictFrom planRules from firstOf
   low-slots l = rw (none-high l)
 
   pub fit-slots : Asked u v p → length (p .slots) ≤ e → Fit u p
@@ -170,81 +152,47 @@ module _ (u : Tasks) (p : Plan) (c : ℕ) (e : c ≡ least (clashes p) (p .cycle
   misplaced-strayed l (inl h) = clash h (some-ge (clashes p) (p .cycle) c e l)
   misplaced-strayed l (inr h) = h
 
-pub swept-bad : (u : Tasks) (v : Patterns) (p : Plan) (cs fs ls : List ℕ) (r : Bool) → Swept (times u) p r cs fs ls → r ≡ false → misplacedVerdict (times u) p ≡ rowsVerdict u v p
-unfolding misplacedVerdict rowsVerdict outsideAt strayed strays
+pub swept-bad : (u : Tasks) (v : Patterns) (p : Plan) (cs fs ls : List ℕ) (r : Bool) → Swept (times u) p r cs fs ls → r ≡ false → misplacedVerdict (times u) p ≡ verdictFrom 20 u v p
+unfolding misplacedVerdict verdictFrom planRules from firstOf outsideAt strayed strays
 swept-bad u v p cs fs ls r w er = go (some (clashes p) (p .cycle)) refl (w .bad er)
   where
-    go : (b : Bool) → some (clashes p) (p .cycle) ≡ b → (some (clashes p) (p .cycle) ≡ true) ⊎ (some (strayed (times u) p) (p .cycle) ≡ true) → pick b (twiceAt p) (outsideAt (times u) p) ≡ pick b (twiceAt p) (pick (some (strayed u p) (p .cycle)) (outsideAt u p) (countsVerdict u v p))
+    go : (b : Bool) → some (clashes p) (p .cycle) ≡ b → (some (clashes p) (p .cycle) ≡ true) ⊎ (some (strayed (times u) p) (p .cycle) ≡ true) → pick b (twiceAt p) (outsideAt (times u) p) ≡ pick b (twiceAt p) (pick (some (strayed u p) (p .cycle)) (outsideAt u p) (verdictFrom 22 u v p))
     go true e h = refl
     go false e (inl h) = clash h e
     go false e (inr h) = rw h
 
--- ---- 22
--- What the lowest wrong job of task i gets, by its entry.
-unfoldable pub wrongEntry : ℕ → List ℕ → List ℕ → List ℕ → List ℕ → ℕ → Verdict
-wrongEntry h ts rs bs cs i =
-    let k : ℕ = least (differs cs (getD bs i 0) (getD rs i 0)) (h / getD ts i 0) in
-    verdict.WrongCount i k (getD cs (getD bs i 0 + k) 0)
-
--- What the search for it asks.
-pub record Differing (h : ℕ) (ts rs bs cs : List ℕ) (i : ℕ) : Type 0 where
-  pub few : i < 64
-  pub low : h ≤ 6000
-  pub period : 0 < getD ts i 0
-  pub room : getD bs i 0 + h / getD ts i 0 ≤ 2048
-  pub wrong : differing h ts rs bs cs i ≡ true
-
-module _ (h : ℕ) (ts rs bs cs : List ℕ) (i b j k : ℕ) (f : Differing h ts rs bs cs i) (eb : b ≡ getD bs i 0) (ej : j ≡ h / getD ts i 0) (ek : k ≡ least (differs cs b (getD rs i 0)) j) where
-  at : k ≡ least (differs cs (getD bs i 0) (getD rs i 0)) (h / getD ts i 0)
-  at = ek ∙ ap₂ (λ (x y : ℕ). least (differs cs x (getD rs i 0)) y) eb ej
-
-  pub wrong-low : (b + k < 2048) × (k ≤ 6000)
-  unfolding differing
-  wrong-low =
-      let w = some-at (differs cs (getD bs i 0) (getD rs i 0)) (h / getD ts i 0) (f .wrong) .0 in
-      (omega (arith, at, f .room), omega (arith, at, div-le-self h (getD ts i 0), f .low))
-
-  pub wrong-entry : verdict.WrongCount i k (getD cs (b + k) 0) ≡ wrongEntry h ts rs bs cs i
-  unfolding wrongEntry
-  wrong-entry = rw (← at, eb)
-
-module _ (u : Tasks) (v : Patterns) (p : Plan) (bs cs fs ls : List ℕ) (r : Bool) (a : Asked u v p) (g : Based u bs) (w : Swept (times u) p r cs fs ls) (er : r ≡ true) where
-  t : Told u p cs fs ls
-  t = told-times u p cs fs ls (w .good er .told)
-
-  clean : rowsVerdict u v p ≡ countsVerdict u v p
-  unfolding rowsVerdict strayed strays
+-- ---- 22 and 23
+module _ (u : Tasks) (v : Patterns) (p : Plan) (bs cs fs ls : List ℕ) (r : Bool) (a : Asked u v p) (f : Fit u p) (g : Based u bs) (w : Swept (times u) p r cs fs ls) (er : r ≡ true) where
+  clean : verdictFrom 20 u v p ≡ verdictFrom 22 u v p
+  unfolding verdictFrom planRules from firstOf strayed strays
   clean =
       rw (none (clashes p) (p .cycle) (w .good er .once), none (strayed u p) (p .cycle) (w .good er .inside))
 
-  module _ (i : ℕ) (ei : i ≡ least (differing (p .cycle) (u .periods) (u .runnings) bs cs) (u .count)) where
-    is-task : i ≡ least (miscounted u p) (u .count)
-    is-task = ei ∙ miscounted-is u p bs cs fs ls (p .cycle) t g (a .ticks)
+  pub tallied : Tallied (p .cycle) cs fs ls u p
+  tallied = record { fit = f; told = told-times u p cs fs ls (w .good er .told); ticks = refl }
 
-    pub differing-at : i < u .count → Fit u p → Differing (p .cycle) (u .periods) (u .runnings) bs cs i
-    unfolding jobs jobsOf
-    differing-at l f =
-        record {
-          few = omega (arith, f .few-tasks);
-          low = f .low-cycle;
-          period = f .some-period i l;
-          room = tabled u v p bs a g .room i l;
-          wrong = rw ei (least-is (differing (p .cycle) (u .periods) (u .runnings) bs cs) (u .count) .found (omega (arith, ei)));
-        }
+  abbrev pub counted : Counted (u .count) (p .cycle) (u .periods) (u .runnings) bs cs fs ls
+  counted = record { tasks = u; plan = p; tallied = tallied; based = g; count = refl; periods = refl; runnings = refl }
 
-    pub wrong-found : i < u .count → wrongEntry (p .cycle) (u .periods) (u .runnings) bs cs i ≡ rowsVerdict u v p
-    unfolding wrongEntry countsVerdict wrongAt numberOfJob miscounted
-    wrong-found l =
-        let z = least-found (miscounted u p) (u .count) i (some-lt (miscounted u p) (u .count) i is-task l) is-task in
-        let k : ℕ = least (miscounts u p i) (jobsOf u i) in
-        let ek : least (differs cs (getD bs i 0) (running u i)) (p .cycle / period u i) ≡ k = miscounts-is u p bs cs fs ls (p .cycle) t g (a .ticks) i l in
-        let ec : getD cs (jobsBefore u i + k) 0 ≡ ticks u p i k = t .each i k l (some-at (miscounts u p i) (jobsOf u i) (z .1) .0) .number in
-        rw (ek, g .each i l, ec) (sym (clean ∙ rw (some-lt (miscounted u p) (u .count) i is-task l, ← is-task)))
+  module _ {i : ℕ} (ei : i ≡ least (miscounted u p) (u .count)) where
+    pub one-wrong : i < u .count → OneWrong (u .count) (p .cycle) (u .periods) (u .runnings) bs cs fs ls i
+    one-wrong l =
+        record { counted = counted; low = l; wrong = least-found (miscounted u p) (u .count) i (some-lt (miscounted u p) (u .count) i ei l) ei .1 }
 
-    pub none-wrong : u .count ≤ i → crossings (p .cycle) (u .periods) bs v fs ls ≡ rowsVerdict u v p
-    unfolding countsVerdict
-    none-wrong l =
-        let z : some (miscounted u p) (u .count) ≡ false = some-ge (miscounted u p) (u .count) i is-task l in
-        crossings-are u v p bs a g cs fs ls t
-        (λ j k lj lk. omega (arith, t .each j k lj lk .number, all-counted u p z j k lj lk, a .sound .some-running j lj))
-        ∙ sym (clean ∙ rw z)
+    pub wrong-found : i < u .count → wrongIn u p i ≡ verdictFrom 20 u v p
+    unfolding verdictFrom planRules from firstOf wrongAt wrongIn
+    wrong-found l = sym (clean ∙ rw (some-lt (miscounted u p) (u .count) i ei l, ← ei))
+
+    module _ (l : u .count ≤ i) where
+      none-miscounted : some (miscounted u p) (u .count) ≡ false
+      none-miscounted = some-ge (miscounted u p) (u .count) i ei l
+
+      pub chained : Chained (p .cycle) cs fs ls u v p
+      chained = record { asked = a; tallied = tallied; ran = λ j k lj lk. omega (arith, all-counted u p none-miscounted j k lj lk, a .sound .some-running j lj) }
+
+      abbrev pub linked : Linked (p .cycle) (u .periods) bs cs fs ls v
+      linked = record { tasks = u; plan = p; chained = chained; based = g; periods = refl }
+
+      pub none-wrong : verdictFrom 23 u v p ≡ verdictFrom 20 u v p
+      unfolding verdictFrom planRules from firstOf
+      none-wrong = sym (clean ∙ rw none-miscounted)

@@ -9,10 +9,10 @@ ghost use Rattle.kinds.specs.Tasks.{tasksOf, patternsOf, view};
 ghost use Rattle.kinds.specs.Plans.{plan};
 ghost use Rattle.judge.specs.Rules.{clashes, strayed};
 ghost use Rattle.judge.specs.Answers.{numberOf, evidenceOf};
-ghost use Rattle.judge.specs.Judgement.{verdictOf};
+ghost use Rattle.judge.specs.Judgement.{verdictOf, verdictFrom};
 ghost use Rattle.judge.specs.Keys.{timesOf, Fit};
 ghost use Rattle.judge.specs.Asked.{Asked};
-ghost use Rattle.judge.specs.Ways.{misplacedVerdict, rowsVerdict, slotsVerdict, lengthVerdict, Held};
+ghost use Rattle.judge.specs.Ways.{misplacedVerdict, lengthVerdict, Held};
 ghost use Rattle.reader.specs.Tables.{taskTables, patternTables};
 ghost use Rattle.reader.specs.Files.{setOf};
 ghost use Rattle.judge.specs.Heads.{judgedOf, wholeVerdict};
@@ -21,6 +21,7 @@ use reader::Head;
 use reader::Shape;
 
 mod counts;
+mod gets;
 mod high;
 mod links;
 mod starts;
@@ -45,14 +46,27 @@ pub enum Verdict {
     BrokenLink(u32, u32, u32),
 }
 
-// How a pattern's links step through the jobs of a cycle: the numbers of its two tasks' first jobs, how many jobs lie from a link to the next, and how
-// many links a pair makes.
+// A task's jobs in the tables of a cycle: the number of the first, and how many there are.
+struct Lane {
+    base: u32,
+    jobs: u32,
+}
+
+// What a job gets: how many ticks in its window, the first and the last of them in true time; without ticks, its release for both.
+struct Got {
+    count: u32,
+    first: u32,
+    last: u32,
+}
+
+// How a pattern's links step through the jobs: its two tasks' jobs, how many jobs of each lie from a link to the next, and how many links a pair makes in
+// a cycle.
 struct Steps {
-    from: usize,
-    to: usize,
-    first: usize,
-    second: usize,
-    rounds: usize,
+    from: Lane,
+    to: Lane,
+    first: u32,
+    second: u32,
+    rounds: u32,
 }
 
 fn wide(x: u8) -> usize
@@ -61,10 +75,10 @@ fn wide(x: u8) -> usize
     x as usize
 }
 
-fn wide16(x: u16) -> usize
+fn wide16(x: u16) -> u32
     ensures { λ r. ⌜ (r ≡ x) × (r < 65536) ⌝ }
 {
-    x as usize
+    x as u32
 }
 
 fn index(x: u32) -> usize
@@ -111,7 +125,7 @@ fn judge_rows(
     second: &[u16; 1024],
 ) -> Verdict
     requires { ⌜ Asked (tasksOf n (now period) (now running) (now offset) (now deadline)) (patternsOf patterns (now from) (now to) (now pairs) (now first) (now second)) (plan (now slots) m h) × Fit (tasksOf n (now period) (now running) (now offset) (now deadline)) (plan (now slots) m h) ⌝ }
-    ensures { λ r. ⌜ r ≡ rowsVerdict (tasksOf n (now (period .entry)) (now (running .entry)) (now (offset .entry)) (now (deadline .entry))) (patternsOf patterns (now (from .entry)) (now (to .entry)) (now (pairs .entry)) (now (first .entry)) (now (second .entry))) (plan (now (slots .entry)) m h) ⌝ }
+    ensures { λ r. ⌜ r ≡ verdictFrom 20 (tasksOf n (now (period .entry)) (now (running .entry)) (now (offset .entry)) (now (deadline .entry))) (patternsOf patterns (now (from .entry)) (now (to .entry)) (now (pairs .entry)) (now (first .entry)) (now (second .entry))) (plan (now (slots .entry)) m h) ⌝ }
 {
     let mut base = [0u32; 64];
     let mut counts = [0u32; 2048];
@@ -133,9 +147,9 @@ fn judge_rows(
     ) {
         return misplaced(slots, m, h, n, period, offset, deadline);
     }
-    let i = counts::wrong_task(h, n, period, running, &base, &counts);
+    let i = counts::wrong_task(h, n, period, running, &base, &counts, &firsts, &lasts);
     if i < n {
-        return counts::wrong_count(h, i, period, running, &base, &counts);
+        return counts::wrong_count(h, n, i, period, running, &base, &counts, &firsts, &lasts);
     }
     links::judge_links(
         h,
@@ -147,6 +161,7 @@ fn judge_rows(
         pairs,
         first,
         second,
+        &counts,
         &firsts,
         &lasts,
     )
@@ -170,7 +185,7 @@ fn judge_tables(
     second: &[u16; 1024],
 ) -> Verdict
     requires { ⌜ Asked (tasksOf n (now period) (now running) (now offset) (now deadline)) (patternsOf patterns (now from) (now to) (now pairs) (now first) (now second)) (plan (now slots) m h) ⌝ }
-    ensures { λ r. ⌜ r ≡ slotsVerdict (tasksOf n (now (period .entry)) (now (running .entry)) (now (offset .entry)) (now (deadline .entry))) (patternsOf patterns (now (from .entry)) (now (to .entry)) (now (pairs .entry)) (now (first .entry)) (now (second .entry))) (plan (now (slots .entry)) m h) ⌝ }
+    ensures { λ r. ⌜ r ≡ verdictFrom 12 (tasksOf n (now (period .entry)) (now (running .entry)) (now (offset .entry)) (now (deadline .entry))) (patternsOf patterns (now (from .entry)) (now (to .entry)) (now (pairs .entry)) (now (first .entry)) (now (second .entry))) (plan (now (slots .entry)) m h) ⌝ }
 {
     let e = high::first_high(slots, n);
     if e < slots.len() {

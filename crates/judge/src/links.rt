@@ -5,9 +5,14 @@ ghost use lib.ListN.{getD};
 ghost use Rattle.vocabulary.specs.Least.{least};
 ghost use Rattle.kinds.specs.Tasks.{patternsOf};
 ghost use Rattle.kinds.specs.Cycle.{multipleOf};
-ghost use Rattle.judge.specs.Crossed.{crosses, Line, linkAt, At, crossedPair, Lines, stepsOf, crossings, Linkable};
+ghost use Rattle.kinds.specs.Links.{repeats};
+ghost use Rattle.judge.specs.Rules.{breaks, brokenPair};
+ghost use Rattle.judge.specs.Judgement.{verdictFrom};
+ghost use Rattle.judge.specs.Linked.{stepsOf, PairOf, PatternOf, Linked};
 use crate::Steps;
 use crate::Verdict;
+use crate::gets::got;
+use crate::gets::lane_of;
 use crate::index;
 use crate::wide16;
 
@@ -19,75 +24,65 @@ fn steps_of(h: u32, period: &[u32; 64], base: &[u32; 64], x: usize, y: usize) ->
     let s = period[x];
     let t = period[y];
     let p = kinds::common_multiple(s, t);
+    let from = lane_of(h, period, base, x);
+    let to = lane_of(h, period, base, y);
     Steps {
-        from: index(base[x]),
-        to: index(base[y]),
-        first: index(p / s),
-        second: index(p / t),
-        rounds: index(h / p),
+        from,
+        to,
+        first: p / s,
+        second: p / t,
+        rounds: h / p,
     }
 }
 
-// The lowest n of r where the entry at b + n * w is not above the one at a + n * v, or r.
+// The lowest broken link of the pair at place x, or how many it has.
 fn broken_link(
+    h: u32,
+    first: &[u16; 1024],
+    second: &[u16; 1024],
+    counts: &[u32; 2048],
     firsts: &[u32; 2048],
     lasts: &[u32; 2048],
-    a: usize,
-    b: usize,
-    v: usize,
-    w: usize,
-    r: usize,
-) -> usize
-    requires { ⌜ Line a b v w r ⌝ }
-    ensures { λ n. ⌜ n ≡ least (crosses (now (firsts .entry)) (now (lasts .entry)) a b v w) r ⌝ }
+    g: Steps,
+    x: usize,
+) -> u32
+    requires { ⌜ PairOf h (now first) (now second) (now counts) (now firsts) (now lasts) g x ⌝ }
+    ensures { λ r. ⌜ ((w : PairOf h (now (first .entry)) (now (second .entry)) (now (counts .entry)) (now (firsts .entry)) (now (lasts .entry)) g x) → r ≡ least (breaks (w .tasks) (w .patterns) (w .plan) (w .pattern) (w .pair)) (repeats (w .tasks) (w .patterns) (w .pattern))) ⌝ }
 {
-    let mut n: usize = 0;
-    let mut i = a;
-    let mut j = b;
-    while n < r {
-        if firsts[j] <= lasts[i] {
+    let mut i = wide16(first[x]);
+    let mut j = wide16(second[x]);
+    let mut n: u32 = 0;
+    while n < g.rounds {
+        let a = got(h, counts, firsts, lasts, g.from, i);
+        let b = got(h, counts, firsts, lasts, g.to, j);
+        if b.first <= a.last {
             return n;
         }
         n += 1;
-        i += v;
-        j += w;
+        i += g.first;
+        j += g.second;
     }
     n
 }
 
-// The lowest broken link of the pair at place x, or how many it has.
-fn pair_link(
-    first: &[u16; 1024],
-    second: &[u16; 1024],
-    x: usize,
-    firsts: &[u32; 2048],
-    lasts: &[u32; 2048],
-    g: Steps,
-) -> usize
-    requires { ⌜ At (now first) (now second) g x ⌝ }
-    ensures { λ n. ⌜ n ≡ least (linkAt (now (first .entry)) (now (second .entry)) (now (firsts .entry)) (now (lasts .entry)) g x) (g .rounds) ⌝ }
-{
-    let a = g.from + wide16(first[x]);
-    let b = g.to + wide16(second[x]);
-    broken_link(firsts, lasts, a, b, g.first, g.second, g.rounds)
-}
-
 // The lowest of n pairs from a place on that has a broken link, or n.
 fn broken_pair(
+    h: u32,
     first: &[u16; 1024],
     second: &[u16; 1024],
-    start: usize,
-    n: usize,
+    counts: &[u32; 2048],
     firsts: &[u32; 2048],
     lasts: &[u32; 2048],
     g: Steps,
+    start: usize,
+    n: usize,
 ) -> usize
-    requires { ⌜ Lines (now first) (now second) g start n ⌝ }
-    ensures { λ q. ⌜ q ≡ least (crossedPair (now (first .entry)) (now (second .entry)) (now (firsts .entry)) (now (lasts .entry)) g start) n ⌝ }
+    requires { ⌜ PatternOf h (now first) (now second) (now counts) (now firsts) (now lasts) g start n ⌝ }
+    ensures { λ r. ⌜ ((w : PatternOf h (now (first .entry)) (now (second .entry)) (now (counts .entry)) (now (firsts .entry)) (now (lasts .entry)) g start n) → r ≡ least (brokenPair (w .tasks) (w .patterns) (w .plan) (w .pattern)) n) ⌝ }
 {
     let mut q: usize = 0;
     while q < n {
-        if pair_link(first, second, start + q, firsts, lasts, g) < g.rounds {
+        if broken_link(h, first, second, counts, firsts, lasts, g, start + q) < g.rounds {
             return q;
         }
         q += 1;
@@ -106,21 +101,22 @@ pub(crate) fn judge_links(
     pairs: &[u32; 64],
     first: &[u16; 1024],
     second: &[u16; 1024],
+    counts: &[u32; 2048],
     firsts: &[u32; 2048],
     lasts: &[u32; 2048],
 ) -> Verdict
-    requires { ⌜ Linkable h (now period) (now base) (patternsOf patterns (now from) (now to) (now pairs) (now first) (now second)) ⌝ }
-    ensures { λ r. ⌜ r ≡ crossings h (now (period .entry)) (now (base .entry)) (patternsOf patterns (now (from .entry)) (now (to .entry)) (now (pairs .entry)) (now (first .entry)) (now (second .entry))) (now (firsts .entry)) (now (lasts .entry)) ⌝ }
+    requires { ⌜ Linked h (now period) (now base) (now counts) (now firsts) (now lasts) (patternsOf patterns (now from) (now to) (now pairs) (now first) (now second)) ⌝ }
+    ensures { λ r. ⌜ ((w : Linked h (now (period .entry)) (now (base .entry)) (now (counts .entry)) (now (firsts .entry)) (now (lasts .entry)) (patternsOf patterns (now (from .entry)) (now (to .entry)) (now (pairs .entry)) (now (first .entry)) (now (second .entry)))) → r ≡ verdictFrom 23 (w .tasks) (patternsOf patterns (now (from .entry)) (now (to .entry)) (now (pairs .entry)) (now (first .entry)) (now (second .entry))) (w .plan)) ⌝ }
 {
     let mut start: usize = 0;
     let mut k: usize = 0;
     while k < patterns {
         let g = steps_of(h, period, base, index(from[k]), index(to[k]));
         let n = index(pairs[k]);
-        let q = broken_pair(first, second, start, n, firsts, lasts, g);
+        let q = broken_pair(h, first, second, counts, firsts, lasts, g, start, n);
         if q < n {
-            let r = pair_link(first, second, start + q, firsts, lasts, g);
-            return Verdict::BrokenLink(k as u32, q as u32, r as u32);
+            let r = broken_link(h, first, second, counts, firsts, lasts, g, start + q);
+            return Verdict::BrokenLink(k as u32, q as u32, r);
         }
         start += n;
         k += 1;

@@ -4,7 +4,8 @@ use mathlib.Core.List.{List}
 use Prim.Native.Nat.{ℕ, _+_, _*_, _%_}
 use lib.Dec.{eqb, leb}
 use lib.ListN.{getD}
-use Rattle.vocabulary.specs.Least.{some}
+use Rattle.vocabulary.specs.Test.{pick}
+use Rattle.vocabulary.specs.Least.{least, some, greatest}
 use Rattle.vocabulary.specs.Count.{count}
 use Rattle.kinds.specs.Tasks.{Tasks, Set, offset, deadline}
 use Rattle.kinds.specs.Cycle.{cycle}
@@ -44,3 +45,14 @@ runs u p i t = awake u i t && shown p i t
 -- the ticks that job k of task i gets in its window
 unfoldable pub ticks : Tasks → Plan → ℕ → ℕ → ℕ
 ticks u p i k = count (runs u p i) (release u i k) (deadline u i)
+
+-- the task runs x ticks past the release of its job k
+abbrev pub runsPast : Tasks → Plan → ℕ → ℕ → ℕ → Bool
+runsPast u p i k x = runs u p i (release u i k + x)
+
+-- the first and the last of the job's ticks, in true time; where it gets none, its release
+unfoldable pub firstTick : Tasks → Plan → ℕ → ℕ → ℕ
+firstTick u p i k = release u i k + pick (some (runsPast u p i k) (deadline u i)) (least (runsPast u p i k) (deadline u i)) 0
+
+unfoldable pub lastTick : Tasks → Plan → ℕ → ℕ → ℕ
+lastTick u p i k = release u i k + greatest (runsPast u p i k) (deadline u i)

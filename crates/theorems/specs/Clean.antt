@@ -168,10 +168,14 @@ module _ (s : Set) (f : Sound s) (slots : List ℕ) where
       let r : runs u p i (c + cycle u) ≡ true = runs-awake u p i (c + cycle u) (late i c li) ∙ shown-yes p i (c + cycle u) q lq (next-slot c q (d .busy)) in
       omega (arith, near i c li lc (a .each i (c + cycle u) li r), d .late)
 
-  pub valid-clean : Keeps11 s slots → Keeps12 s slots → Valid s p → Keeps20 s slots × Keeps21 s slots × Keeps22 s slots × Keeps23 s slots
-  valid-clean g k a = (
-    record { none = single g k (a .alone) },
-    record { none = placed g k (a .inside) },
-    record { none = λ i j li lj d. d (a .exact .each i j li) },
-    record { none = λ i q n li lq ln d. d (a .kept .each i q n li lq) },
-  )
+  pub keeps-20 : Keeps11 s slots → Keeps12 s slots → Valid s p → Keeps20 s slots
+  keeps-20 g k a = record { none = single g k (a .alone) }
+
+  pub keeps-21 : Keeps11 s slots → Keeps12 s slots → Valid s p → Keeps21 s slots
+  keeps-21 g k a = record { none = placed g k (a .inside) }
+
+  pub keeps-22 : Valid s p → Keeps22 s slots
+  keeps-22 a = record { none = λ i j li lj d. d (a .exact .each i j li) }
+
+  pub keeps-23 : Valid s p → Keeps23 s slots
+  keeps-23 a = record { none = λ i q n li lq ln d. d (a .kept .each i q n li lq) }

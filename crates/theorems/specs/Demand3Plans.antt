@@ -1,31 +1,29 @@
 -- A plan's repetition is a play: what its steps lean on.
 use mathlib.Core.Path.{_≡_, refl, ap, _∙_, fun-ext}
-use mathlib.Core.Bool.{false, not}
+use mathlib.Core.Bool.{false}
 use mathlib.Core.List.{List}
 use mathlib.Core.Logic.{⊎-elim}
 use Prim.Native.Nat.{ℕ, zero, suc, _+_, _*_, _%_, _^_, _≤_, _<_}
 use native.Mathlib.Nat.{mod-lt}
 use native.Mathlib.Omega.{arith}
-use lib.Dec.{eqb}
 use lib.ListN.{getD, length, List·getD-eq-default}
 use lib.Pow.{pow-pos}
-use borrow.Author.Tests.{le-ltb, ltb-false, eqb-true, not-false}
-use Rattle.vocabulary.specs.Test.{lt-or-le, missed}
-use Rattle.vocabulary.specs.Least.{some, some-not, none}
+use borrow.Author.Tests.{le-ltb}
+use Rattle.vocabulary.specs.Test.{lt-or-le}
+use Rattle.vocabulary.specs.Least.{some, none}
 use Rattle.kinds.specs.Tasks.{Set}
 use Rattle.kinds.specs.Cycle.{cycle}
 use Rattle.kinds.specs.Plans.{planOf, slot, shows, shown, runs}
-use Rattle.kinds.specs.Sound.{sound}
 use Rattle.kinds.specs.Facts.{Sound, sound-facts}
-use Rattle.judge.specs.Rules.{high}
 use Rattle.judge.specs.declared.Verdict.the-variants as verdict
-use Rattle.judge.specs.Judgement.{highAt, verdictOf}
+use Rattle.judge.specs.Judgement.{verdictOf}
 use Rattle.laws.specs.Repeat.{slot-mod}
 use Rattle.dispatcher.specs.declared.Answer.the-variants as answer
 use Rattle.dispatcher.specs.Refusals.{impossible, highSlot, stepped, steppedOf, leftOf}
 use Rattle.dispatcher.specs.Runs.{Play, playOf, stateAt, shownAt}
 use Rattle.dispatcher.specs.Laws.{done-low, ran-low, Allowed, none-refuses, is-possible, no-overreport}
 use Rattle.theorems.specs.Demand3Terms.{names, planned, Playable, Fits, GoesOn}
+use Rattle.theorems.specs.Demand2.{accepted-iff}
 use Rattle.theorems.specs.Solo.{tick-at}
 
 -- a planned tick of the play is one that the plan's repetition runs
@@ -35,25 +33,7 @@ planned-runs s slots i = refl
 
 -- an accepted plan kept rules 10, 11 and 12
 pub accepted-fits : (s : Set) (slots : List ℕ) → verdictOf s slots ≡ verdict.Accepted → Fits s slots
-unfolding verdictOf highAt high
-accepted-fits s slots e =
-    let a = missed (not (sound s)) _ _ _ e bad-set in
-    let b = missed (not (eqb (length slots) (s .processors * cycle (s .tasks)))) _ _ _ (a .1) wrong-length in
-    let c = missed (some (high slots (s .tasks .count)) (length slots)) _ _ _ (b .1) bad-slot in
-    record {
-      is-sound = not-false (sound s) (a .0);
-      long = eqb-true (length slots) (s .processors * cycle (s .tasks)) (not-false _ (b .0));
-      low = λ x l. ltb-false (s .tasks .count) (getD slots x 0) (some-not (high slots (s .tasks .count)) (length slots) (c .0) x l);
-    }
-  where
-    bad-set : verdict.BadSet ≡ verdict.Accepted → ⊥
-    bad-set q = let z : _≡_ {A = ℕ} 0 1 = cc in omega arith
-
-    wrong-length : verdict.WrongLength ≡ verdict.Accepted → ⊥
-    wrong-length q = let z : _≡_ {A = ℕ} 0 1 = cc in omega arith
-
-    bad-slot : {x : ℕ} → verdict.BadSlot x ≡ verdict.Accepted → ⊥
-    bad-slot q = let z : _≡_ {A = ℕ} 0 1 = cc in omega arith
+accepted-fits s slots e = let w = accepted-iff s slots .0 e in record { is-sound = w .0; long = w .1; low = w .2 }
 
 module _ (s : Set) (slots : List ℕ) (fits : Fits s slots) where
   abbrev y : Play

@@ -1,7 +1,7 @@
 -- What each verdict claims, in document 01's words: which rules are kept, which one is broken, and that its evidence is the lowest.
 use mathlib.Core.Path.{_≡_}
 use mathlib.Core.Bool.{true, false}
-use mathlib.Core.List.{List}
+use mathlib.Core.List.{List, [], _∷_}
 use Prim.Native.Nat.{ℕ, _+_, _-_, _*_, _%_, _<_, _≤_}
 use lib.ListN.{getD, length}
 use Rattle.kinds.specs.Tasks.{Tasks, Patterns, Set, period, running, offset, deadline, fromTask, toTask, pairCount}
@@ -12,6 +12,8 @@ use Rattle.kinds.specs.Sound.{sound}
 use Rattle.kinds.specs.Valid.{LinkKept}
 use Rattle.judge.specs.declared.Verdict.{Verdict}
 use Rattle.judge.specs.declared.Verdict.the-variants as verdict
+use Rattle.judge.specs.Answers.{numberOf}
+use Rattle.vocabulary.specs.First.{Claim, claim, order, earlier, KeptBy}
 use Rattle.vocabulary.specs.Lowest.{Lowest, Lowest2, Lowest3}
 
 -- ---- how each rule is broken at one place
@@ -61,20 +63,25 @@ pub record Keeps22 (s : Set) (slots : List ℕ) : Type 0 where
 pub record Keeps23 (s : Set) (slots : List ℕ) : Type 0 where
   pub none : (k q n : ℕ) → k < s .patterns .count → q < pairCount (s .patterns) k → n < repeats (s .tasks) (s .patterns) k → LinkBroken (s .tasks) (s .patterns) (planOf s slots) k q n → ⊥
 
+-- ---- "Judge: 10, 11, 12, 20, 21, 22, 23, else accepted.": the rules in their order, each with what it says where it is kept
+unfoldable pub claims : Set → List ℕ → List Claim
+claims s slots =
+    claim 10 (Keeps10 s)
+    ∷ claim 11 (Keeps11 s slots)
+    ∷ claim 12 (Keeps12 s slots)
+    ∷ claim 20 (Keeps20 s slots)
+    ∷ claim 21 (Keeps21 s slots)
+    ∷ claim 22 (Keeps22 s slots)
+    ∷ claim 23 (Keeps23 s slots)
+    ∷ []
+
+-- every rule that stands before a number is kept; before 0, which no rule has, all of them stand
+abbrev pub KeptBefore : Set → List ℕ → ℕ → Type 0
+KeptBefore s slots n = (m : ℕ) → earlier (order (claims s slots)) m n ≡ true → KeptBy (claims s slots) m
+
 -- nothing is claimed
 abbrev pub Nothing : Type 0
 Nothing = Unit {0}
-
--- ---- "Judge: 10, 11, 12, 20, 21, 22, 23, else accepted.": the rules that are kept where a verdict is given, all that come before its own
-unfoldable pub Before : Set → List ℕ → Verdict → Type 0
-Before s slots verdict.BadSet = Nothing
-Before s slots verdict.WrongLength = Keeps10 s
-Before s slots (verdict.BadSlot e) = Keeps10 s × Keeps11 s slots
-Before s slots (verdict.Twice t q r) = Keeps10 s × Keeps11 s slots × Keeps12 s slots
-Before s slots (verdict.Outside c q) = Keeps10 s × Keeps11 s slots × Keeps12 s slots × Keeps20 s slots
-Before s slots (verdict.WrongCount i k c) = Keeps10 s × Keeps11 s slots × Keeps12 s slots × Keeps20 s slots × Keeps21 s slots
-Before s slots (verdict.BrokenLink k q n) = Keeps10 s × Keeps11 s slots × Keeps12 s slots × Keeps20 s slots × Keeps21 s slots × Keeps22 s slots
-Before s slots verdict.Accepted = Keeps10 s × Keeps11 s slots × Keeps12 s slots × Keeps20 s slots × Keeps21 s slots × Keeps22 s slots × Keeps23 s slots
 
 -- ---- the rule that is broken, and that the evidence is its lowest: "Lowest means by task, then job; by tick, then processors; by pattern, pair, k."
 -- 22 also shows the "ticks it gets". "Only k below H/p is shown as evidence".
@@ -90,5 +97,5 @@ Breach s slots verdict.Accepted = Nothing
 
 -- ==== What a verdict claims: the rules before its own are kept, its own is broken, and its evidence is the lowest. Acceptance claims that all are kept.
 pub record Names (s : Set) (slots : List ℕ) (x : Verdict) : Type 0 where
-  pub kept : Before s slots x
+  pub kept : KeptBefore s slots (numberOf x)
   pub broken : Breach s slots x

@@ -8,7 +8,7 @@ use native.Mathlib.Omega.{arith}
 use lib.Dec.{ltb}
 use borrow.Author.Count.{below-none, below-more}
 use borrow.Author.Tests.{ltb-true, ltb-false, lt-ltb, le-ltb, not-true, not-false}
-use Rattle.vocabulary.specs.Test.{clash, lt-or-le}
+use Rattle.vocabulary.specs.Test.{pick, clash, lt-or-le}
 
 abbrev pub past : Bool → ℕ → ℕ
 past true r = r
@@ -167,3 +167,23 @@ pass-on f n i p l e = record { within = omega arith; before = below-more (λ (k 
 
 pub pass-end : (f : ℕ → Bool) (n i : ℕ) → Passing f n i → n ≤ i → all f n ≡ true
 pass-end f n i p l = all-from f n (λ k h. p .before k (omega arith))
+
+-- ---- the greatest number below n that passes a test, or 0 where none does
+unfoldable pub greatest : (ℕ → Bool) → ℕ → ℕ
+greatest f zero = 0
+greatest f (suc n) = let r : ℕ = greatest f n in pick (f n) n r
+
+pub greatest-is : (f : ℕ → Bool) (n k : ℕ) → k < n → f k ≡ true → (greatest f n < n) × (f (greatest f n) ≡ true) × (k ≤ greatest f n)
+unfolding greatest
+greatest-is f zero k l e = absurd (omega arith)
+greatest-is f (suc n) k l e = go (f n) refl (greatest-is f n k) (eq-or-lt-of-le (le-of-suc-le-suc l))
+  where
+    go : (b : Bool) → f n ≡ b → (k < n → f k ≡ true → (greatest f n < n) × (f (greatest f n) ≡ true) × (k ≤ greatest f n)) → (k ≡ n) ⊎ (k < n) → (pick b n (greatest f n) < suc n) × (f (pick b n (greatest f n)) ≡ true) × (k ≤ pick b n (greatest f n))
+    go true q ih h = (omega arith, q, omega arith)
+    go false q ih (inl h) = clash (sym (ap f h) ∙ e) q
+    go false q ih (inr h) = let w = ih h e in (omega (arith, w .0), w .1, w .2)
+
+pub greatest-none : (f : ℕ → Bool) (n : ℕ) → ((k : ℕ) → k < n → f k ≡ false) → greatest f n ≡ 0
+unfolding greatest
+greatest-none f zero h = refl
+greatest-none f (suc n) h = rw (h n (omega arith)) (greatest-none f n (λ k l. h k (omega arith)))

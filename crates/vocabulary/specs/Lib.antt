@@ -1,5 +1,6 @@
 pub mod Test
 pub mod Least
+pub mod First
 pub mod Count
 pub mod Total
 pub mod Table

@@ -1,81 +1,41 @@
-use mathlib.Core.Path.{_∙_}
-use Rattle.judge.specs.Ways.{wrong-low, wrong-entry}
 use native.Mathlib.Omega.{arith}
-use borrow.Author.Needs.{needs}
+use Rattle.judge.specs.Counts.{task-room, task-tells, run-is, wrong-low, wrong-in}
 use Rattle.judge.proofs.counts.wrong_count.Statement.{statement}
 use Rattle.judge.proofs.counts.wrong_count.Tie as tie
 
-mul-index : tie.Need-mul-index
-mul-index c = omega (arith, c .pre .few)
-
-element-copy-out-index : tie.Need-element-copy-out-index
-element-copy-out-index c = omega (arith, c .pre .few)
-
-index-requires : tie.Need-index-requires
-index-requires c κs = search needs
-
-mul-jobs-of : tie.Need-mul-jobs-of
-mul-jobs-of c = omega (arith, c .before .before .pre .few)
-
-element-copy-out-jobs-of : tie.Need-element-copy-out-jobs-of
-element-copy-out-jobs-of c = omega (arith, c .before .before .pre .few)
-
-jobs-of-requires : tie.Need-jobs-of-requires
-jobs-of-requires c κs = c .before .before .before .pre .period
-
-index-requires-2 : tie.Need-index-requires-2
-index-requires-2 c κs = search needs
+lane-of-requires : tie.Need-lane-of-requires
+lane-of-requires c κs = task-room (c .pre .counted) (c .pre .low)
 
 mul-wrong-job : tie.Need-mul-wrong-job
-mul-wrong-job c = omega (arith, c .before .before .before .before .before .pre .few)
+mul-wrong-job c = omega (arith, task-room (c .before .pre .counted) (c .before .pre .low))
 
 element-copy-out-wrong-job : tie.Need-element-copy-out-wrong-job
-element-copy-out-wrong-job c = omega (arith, c .before .before .before .before .before .pre .few)
+element-copy-out-wrong-job c = omega (arith, task-room (c .before .pre .counted) (c .before .pre .low))
 
 wrong-job-requires : tie.Need-wrong-job-requires
-wrong-job-requires c κs =
-    omega (arith, c .before .before .before .before .before .before .pre .room, c .before .before .before .before .index .ensures .0, c .before .index2 .ensures .0 ∙ c .before .before .jobs-of .ensures)
+wrong-job-requires c κs = task-tells (c .before .before .pre .counted) (c .before .before .pre .low) (c .before .lane-of .ensures)
+
+got-requires : tie.Need-got-requires
+got-requires c κs = let w = c .before .before .before .pre in
+    let t = task-tells (w .counted) (w .low) (c .before .before .lane-of .ensures) in
+    (t, omega (arith, wrong-low (w .counted) (w .low) (c .before .before .lane-of .ensures) (c .wrong-job .ensures t (run-is (w .counted) (w .low))) (w .wrong)))
 
 cast-t16 : tie.Need-cast-t16
-cast-t16 c = omega (arith, c .before .before .before .before .before .before .before .pre .few)
-
-cast-t13 : tie.Need-cast-t13
-cast-t13 c =
-    omega (arith, wrong-low _ _ _ _ _ _ _ _ _ (c .before .before .before .before .before .before .before .pre) (c .before .before .before .before .before .index .ensures .0) (c .before .before .index2 .ensures .0 ∙ c .before .before .before .jobs-of .ensures) (c .wrong-job .ensures) .1)
-
-add-t10 : tie.Need-add-t10
-add-t10 c =
-    omega (arith, wrong-low _ _ _ _ _ _ _ _ _ (c .before .before .before .before .before .before .before .pre) (c .before .before .before .before .before .index .ensures .0) (c .before .before .index2 .ensures .0 ∙ c .before .before .before .jobs-of .ensures) (c .wrong-job .ensures) .0)
-
-mul-t19 : tie.Need-mul-t19
-mul-t19 c =
-    omega (arith, wrong-low _ _ _ _ _ _ _ _ _ (c .before .before .before .before .before .before .before .pre) (c .before .before .before .before .before .index .ensures .0) (c .before .before .index2 .ensures .0 ∙ c .before .before .before .jobs-of .ensures) (c .wrong-job .ensures) .0)
-
-element-copy-out-t22 : tie.Need-element-copy-out-t22
-element-copy-out-t22 c =
-    omega (arith, wrong-low _ _ _ _ _ _ _ _ _ (c .before .before .before .before .before .before .before .pre) (c .before .before .before .before .before .index .ensures .0) (c .before .before .index2 .ensures .0 ∙ c .before .before .before .jobs-of .ensures) (c .wrong-job .ensures) .0)
+cast-t16 c = omega (arith, task-room (c .before .before .before .before .pre .counted) (c .before .before .before .before .pre .low))
 
 returns : tie.Need-returns
-returns c =
-    wrong-entry _ _ _ _ _ _ _ _ _ (c .before .before .before .before .before .before .before .before .pre) (c .before .before .before .before .before .before .index .ensures .0) (c .before .before .before .index2 .ensures .0 ∙ c .before .before .before .before .jobs-of .ensures) (c .before .wrong-job .ensures)
+returns c = λ w l.
+    let t = task-tells w l (c .before .before .before .lane-of .ensures) in
+    wrong-in w l (c .before .before .before .lane-of .ensures) (c .before .wrong-job .ensures t (run-is w l)) (c .got .ensures t)
 
 pub wrong-count-spec : {M : Type 1} → statement M
 wrong-count-spec =
     tie.close
     (tie.spec
-    mul-index
-    element-copy-out-index
-    index-requires
-    mul-jobs-of
-    element-copy-out-jobs-of
-    jobs-of-requires
-    index-requires-2
+    lane-of-requires
     mul-wrong-job
     element-copy-out-wrong-job
     wrong-job-requires
+    got-requires
     cast-t16
-    cast-t13
-    add-t10
-    mul-t19
-    element-copy-out-t22
     returns)

@@ -1,60 +1,44 @@
-use mathlib.Core.Path.{ap}
-use mathlib.Core.Bool.{not}
+use mathlib.Core.Path.{_≡_}
 use Prim.Native.Nat.{_-_}
-use borrow.Author.Tests.{eq-eqb, ne-eqb}
+use native.Mathlib.Omega.{arith}
 use Rattle.vocabulary.specs.Least.{Seeking, seek, on, hit, miss}
-use Rattle.judge.specs.Counts.{differs}
+use Rattle.kinds.specs.Tasks.{running}
+use Rattle.kinds.specs.Cycle.{jobsOf}
+use Rattle.judge.specs.Rules.{miscounts}
+use Rattle.judge.specs.Got.{Tells, ask-here, lane-low, lane-high}
+use Rattle.judge.specs.Counts.{miscount-yes, miscount-no}
 use borrow.Author.Needs.{needs}
 use Rattle.judge.proofs.counts.wrong_job.Statement.{statement}
 use Rattle.judge.proofs.counts.wrong_job.Tie as tie
 
 abbrev Inv-loop : tie.InvT-loop
-Inv-loop counts b k c j₀ j = Seeking (differs counts b c) k j
+Inv-loop h counts firsts lasts l c k₀ k = (t : Tells h counts firsts lasts l) → c ≡ running (t .tasks) (t .task) → Seeking (miscounts (t .tasks) (t .plan) (t .task)) (jobsOf (t .tasks) (t .task)) k
 
 abbrev μ-loop : tie.MeasureT-loop
-μ-loop counts b k c j₀ j = k - j
+μ-loop h counts firsts lasts l c k₀ k = l .jobs - k
 
 loop-holds : tie.Need-loop-holds Inv-loop μ-loop
-loop-holds c = seek _ _
+loop-holds c = λ t e. seek _ _
 
-add-if1 : tie.Need-add-if1 Inv-loop μ-loop
-add-if1 c = search needs
-
-mul-if1 : tie.Need-mul-if1 Inv-loop μ-loop
-mul-if1 c = search needs
-
-element-copy-out-if1 : tie.Need-element-copy-out-if1 Inv-loop μ-loop
-element-copy-out-if1 c = search needs
+got-requires : tie.Need-got-requires Inv-loop μ-loop
+got-requires c κs = (c .before .before .before .pre, omega (arith, ask-here (c .before .before .before .pre) (c .if1 .taken)))
 
 returns : tie.Need-returns Inv-loop μ-loop
-unfolding differs
-returns c = hit _ _ _ (c .before .before .before .loop .inv) (ap not (ne-eqb _ _ (c .if1 .taken)))
+returns c = λ t e. hit _ _ _ (c .before .before .before .before .before .loop .inv t e) (miscount-yes _ _ _ _ (c .before .before .got .ensures t) e (c .if2 .taken))
 
-add-j : tie.Need-add-j Inv-loop μ-loop
-add-j c = search needs
+add-k : tie.Need-add-k Inv-loop μ-loop
+add-k c = search needs
 
 loop-less : tie.Need-loop-less Inv-loop μ-loop
 loop-less c = search needs
 
 loop-again : tie.Need-loop-again Inv-loop μ-loop
-unfolding differs
-loop-again c = on _ _ _ (c .before .before .before .loop .inv) (c .before .before .loop-test .taken) (ap not (eq-eqb _ _ (c .if1 .left)))
+loop-again c = λ t e. on _ _ _ (c .before .before .before .before .before .loop .inv t e) (lane-low t (c .before .before .before .if1 .taken)) (miscount-no _ _ _ _ (c .before .before .got .ensures t) e (c .if2 .left))
 
 returns-2 : tie.Need-returns-2 Inv-loop μ-loop
-returns-2 c = miss _ _ _ (c .before .loop .inv) (c .loop-test .left)
+returns-2 c = λ t e. miss _ _ _ (c .before .before .loop .inv t e) (lane-high t (c .if1 .left))
 
 pub wrong-job-spec : {M : Type 1} → statement M
 wrong-job-spec =
     tie.close
-    (tie.spec
-    Inv-loop
-    μ-loop
-    loop-holds
-    add-if1
-    mul-if1
-    element-copy-out-if1
-    returns
-    add-j
-    loop-less
-    loop-again
-    returns-2)
+    (tie.spec Inv-loop μ-loop loop-holds got-requires returns add-k loop-less loop-again returns-2)

@@ -1,43 +1,45 @@
 use Prim.Native.Nat.{_-_}
-use Rattle.vocabulary.specs.Least.{Seeking, seek, on, hit, miss, some-lt, some-ge}
-use Rattle.judge.specs.Crossed.{crossedPair, lines-at}
-use borrow.Author.Needs.{needs}
 use native.Mathlib.Omega.{arith}
+use Rattle.vocabulary.specs.Least.{Seeking, seek, on, hit, miss}
+use Rattle.judge.specs.Rules.{brokenPair}
+use Rattle.judge.specs.Linked.{PatternOf, pattern-pair, pairs-room, pair-yes, pair-no}
+use borrow.Author.Needs.{needs}
 use Rattle.judge.proofs.links.broken_pair.Statement.{statement}
 use Rattle.judge.proofs.links.broken_pair.Tie as tie
 
 abbrev Inv-loop : tie.InvT-loop
-Inv-loop first second start n firsts lasts g q₀ q = Seeking (crossedPair first second firsts lasts g start) n q
+Inv-loop h first second counts firsts lasts g start n q₀ q = (w : PatternOf h first second counts firsts lasts g start n) → Seeking (brokenPair (w .tasks) (w .patterns) (w .plan) (w .pattern)) n q
 
 abbrev μ-loop : tie.MeasureT-loop
-μ-loop first second start n firsts lasts g q₀ q = n - q
+μ-loop h first second counts firsts lasts g start n q₀ q = n - q
 
 loop-holds : tie.Need-loop-holds Inv-loop μ-loop
-loop-holds c = seek _ _
+loop-holds c = λ w. seek _ _
 
-add-pair-link : tie.Need-add-pair-link Inv-loop μ-loop
-add-pair-link c = omega (arith, c .before .before .pre .room, c .loop-test .taken)
+add-broken-link : tie.Need-add-broken-link Inv-loop μ-loop
+add-broken-link c = omega (arith, pairs-room (c .before .before .pre), c .loop-test .taken)
 
-pair-link-requires : tie.Need-pair-link-requires Inv-loop μ-loop
-pair-link-requires c κs = lines-at _ _ _ _ _ _ (c .before .before .pre) (c .loop-test .taken)
+broken-link-requires : tie.Need-broken-link-requires Inv-loop μ-loop
+broken-link-requires c κs = pattern-pair (c .before .before .pre) (c .loop-test .taken)
 
 returns : tie.Need-returns Inv-loop μ-loop
-unfolding crossedPair
-returns c = hit _ _ _ (c .before .before .before .before .loop .inv) (some-lt _ _ _ (c .before .before .pair-link .ensures) (c .if1 .taken))
+returns c = λ w.
+    let z = pattern-pair w (c .before .before .before .loop-test .taken) in
+    hit _ _ _ (c .before .before .before .before .loop .inv w) (pair-yes z (c .before .before .broken-link .ensures z) (c .if1 .taken))
 
 add-q : tie.Need-add-q Inv-loop μ-loop
-add-q c = omega (arith, c .before .before .before .before .before .pre .room, c .before .before .before .loop-test .taken)
+add-q c = omega (arith, pairs-room (c .before .before .before .before .before .pre), c .before .before .before .loop-test .taken)
 
 loop-less : tie.Need-loop-less Inv-loop μ-loop
 loop-less c = search needs
 
 loop-again : tie.Need-loop-again Inv-loop μ-loop
-unfolding crossedPair
-loop-again c =
-    on _ _ _ (c .before .before .before .before .loop .inv) (c .before .before .before .loop-test .taken) (some-ge _ _ _ (c .before .before .pair-link .ensures) (c .if1 .left))
+loop-again c = λ w.
+    let z = pattern-pair w (c .before .before .before .loop-test .taken) in
+    on _ _ _ (c .before .before .before .before .loop .inv w) (c .before .before .before .loop-test .taken) (pair-no z (c .before .before .broken-link .ensures z) (c .if1 .left))
 
 returns-2 : tie.Need-returns-2 Inv-loop μ-loop
-returns-2 c = miss _ _ _ (c .before .loop .inv) (c .loop-test .left)
+returns-2 c = λ w. miss _ _ _ (c .before .loop .inv w) (c .loop-test .left)
 
 pub broken-pair-spec : {M : Type 1} → statement M
 broken-pair-spec =
@@ -46,8 +48,8 @@ broken-pair-spec =
     Inv-loop
     μ-loop
     loop-holds
-    add-pair-link
-    pair-link-requires
+    add-broken-link
+    broken-link-requires
     returns
     add-q
     loop-less
