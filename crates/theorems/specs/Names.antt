@@ -13,7 +13,8 @@ use Rattle.kinds.specs.Valid.{LinkKept}
 use Rattle.judge.specs.declared.Verdict.{Verdict}
 use Rattle.judge.specs.declared.Verdict.the-variants as verdict
 use Rattle.judge.specs.Answers.{numberOf}
-use Rattle.vocabulary.specs.First.{Claim, claim, order, earlier, KeptBy}
+use Rattle.vocabulary.specs.First.{Claim, claim, numbersOf, earlier, KeptBy}
+use Rattle.judge.specs.Judgement.{rules}
 use Rattle.vocabulary.specs.Lowest.{Lowest, Lowest2, Lowest3}
 
 -- ---- how each rule is broken at one place
@@ -63,7 +64,7 @@ pub record Keeps22 (s : Set) (slots : List ℕ) : Type 0 where
 pub record Keeps23 (s : Set) (slots : List ℕ) : Type 0 where
   pub none : (k q n : ℕ) → k < s .patterns .count → q < pairCount (s .patterns) k → n < repeats (s .tasks) (s .patterns) k → LinkBroken (s .tasks) (s .patterns) (planOf s slots) k q n → ⊥
 
--- ---- "Judge: 10, 11, 12, 20, 21, 22, 23, else accepted.": the rules in their order, each with what it says where it is kept
+-- ---- what each rule says where it is kept, by its number
 unfoldable pub claims : Set → List ℕ → List Claim
 claims s slots =
     claim 10 (Keeps10 s)
@@ -75,9 +76,9 @@ claims s slots =
     ∷ claim 23 (Keeps23 s slots)
     ∷ []
 
--- every rule that stands before a number is kept; before 0, which no rule has, all of them stand
+-- Every rule that stands before a number in the judge's order is kept; before 0, which no rule has, all of them stand. The order is that of judge `rules`.
 abbrev pub KeptBefore : Set → List ℕ → ℕ → Type 0
-KeptBefore s slots n = (m : ℕ) → earlier (order (claims s slots)) m n ≡ true → KeptBy (claims s slots) m
+KeptBefore s slots n = (m : ℕ) → earlier (numbersOf (rules s slots)) m n ≡ true → KeptBy (claims s slots) m
 
 -- nothing is claimed
 abbrev pub Nothing : Type 0
