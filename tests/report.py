@@ -127,10 +127,10 @@ def crates_listed():
     return names
 
 
-def edits(folder):
-    """Every edit in a folder by its label, with the sentence that it begins with, or else its label in words."""
+def edits(*folders):
+    """Every edit in some folders by its label, with the sentence that it begins with, or else its label in words."""
     found = {}
-    for path in files(folder, '.edit'):
+    for path in (path for folder in folders for path in files(folder, '.edit')):
         label = os.path.basename(path)[:-5]
         said = [x.lstrip('# ').rstrip(' .') for x in read(path).split('\n') if x.startswith('#')]
         words = said[0] if said else label.replace('_', ' ')
@@ -138,8 +138,13 @@ def edits(folder):
     return found
 
 
+def wrong_edits(crate):
+    """The edits of a crate: those that `rt ci` tries, and those that are tried over a warm cache."""
+    return edits(f'crates/{crate}/must-fail', f'tests/edits/{crate}')
+
+
 # ---- the log
-PARTS = ('layout', 'proofs', 'changed definitions', 'outside')
+PARTS = ('layout', 'proofs', 'changed definitions', 'edits', 'outside')
 CLOSING = re.compile(r'(\d+) passed, (\d+) failed$')
 
 
@@ -169,7 +174,7 @@ def table(head, rows):
     return out + ['| ' + ' | '.join(str(x) for x in row) + ' |' for row in rows]
 
 
-def proofs_section(lines, crates):
+def proofs_section(lines, tried, crates):
     proved = {m[1]: int(m[2]) for m in (re.match(r'rt: (\w+) proved \((\d+) s\)', x) for x in lines) if m}
     shown = {(m[1], m[2]) for m in (re.match(r'fn (\w+)::(\S+): proved$', x) for x in lines) if m}
     assumed, last = {}, None
@@ -184,8 +189,9 @@ def proofs_section(lines, crates):
     ran = [m[1] for m in (re.match(r'rt: (\w+) ran.*and wrote what', x) for x in lines) if m]
     proved.update({name: proved.get(name, 0) for name in ran})
     refused = {(m[1], m[2]) for m in (re.match(r'rt: must-fail (\w+)/(\w+): refused, as it must be', x) for x in lines) if m}
-    for x in lines:
-        if re.search(r'NOT PROVED|NOT REFUSED|BAD EDIT|its run FAILED|^rt: FAILED', x):
+    refused |= {(m[1], m[2]) for m in (re.match(r'(\w+)/(\w+): refused at ', x) for x in tried) if m}
+    for x in lines + tried:
+        if re.search(r'NOT PROVED|NOT REFUSED|BAD EDIT|NO FAILED FACT|NOT TRIED|its run FAILED|^rt: FAILED', x):
             problems.append('`' + x + '`')
     counts = {'functions': 0, 'public': 0, 'for C': 0, 'asking': 0, 'definitions': 0, 'laws': 0}
     rows = []
@@ -198,7 +204,7 @@ def proofs_section(lines, crates):
             problems.append(f'`{crate}` has {len(fns)} functions, and the log shows {seen} as proved.')
         said = [s for path in files(f'crates/{crate}/specs', '.antt') for s in statements(path)]
         definitions, laws = sum(kind == 'definition' for kind, _ in said), sum(kind == 'law' for kind, _ in said)
-        wrong = edits(f'crates/{crate}/must-fail')
+        wrong = wrong_edits(crate)
         unseen = [label for label in wrong if (crate, label) not in refused]
         if unseen:
             problems.append(f'The log does not say that these wrong edits of `{crate}` were refused: {", ".join(unseen)}.')
@@ -230,7 +236,7 @@ def edit_sections(refused, lines, crates):
     out += paragraph('A proof is worth something only if it fails where it should. Each line is a rule, or a wrong program. An edit that breaks the rule, or makes the program,',
                      'was tried in the run, and the checker refused it.')
     rows = [(f'`{crate}`', said, 'refused' if (crate, label) in refused else 'NOT SEEN IN THE LOG')
-            for crate in crates for label, said in edits(f'crates/{crate}/must-fail').items()]
+            for crate in crates for label, said in wrong_edits(crate).items()]
     out += table(['part', 'rule that the edit breaks', 'outcome'], rows) + ['']
     out += paragraph("And definitions: each line is a wrong reading of the paper. With it the paper's own cases A to M no longer come out, and the checker refused it.")
     rows = []
@@ -285,7 +291,7 @@ def main():
     for name in PARTS:
         if name not in parts:
             problems.append(f"The log has no part '{name}'.")
-    counts, rows, refused, ran, assumed = proofs_section(parts.get('proofs', []), crates)
+    counts, rows, refused, ran, assumed = proofs_section(parts.get('proofs', []), parts.get('edits', []), crates)
     demands = demand_sections()
     wrong = edit_sections(refused, parts.get('changed definitions', []), crates)
     cases = outside_section(parts.get('outside', []))

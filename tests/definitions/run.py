@@ -7,6 +7,10 @@ error in the table's statement. An edit has a comment, and `file:`, `old:` and `
 import os, re, shutil, subprocess, sys
 
 TOP = os.path.abspath(os.path.join(os.path.dirname(__file__), '..', '..'))
+sys.dont_write_bytecode = True
+sys.path.insert(0, os.path.join(TOP, 'tests'))
+from edit import change
+
 WORK = os.path.join(TOP, 'target', 'definitions')
 USE = re.compile(r'^(?:ghost )?use Rattle·(\w+?)(?:·specs)?\.specs\.(\w+)', re.M)
 
@@ -86,25 +90,6 @@ def lay_out(where):
             shutil.copy(os.path.join(home, 'specs', m + '.antt'), os.path.join(copy, 'specs', m + '.antt'))
     with open(os.path.join(where, 'crates.txt'), 'w', encoding='utf-8') as out:
         out.write(''.join(f"{c}: {' '.join(listed[c])}\n" for c in crates))
-
-
-def change(where, path):
-    """Applies the edit at a path; what is wrong with it, or nothing."""
-    file = old = None
-    with open(path, encoding='utf-8') as f:
-        for line in f.read().split('\n'):
-            if line.startswith('file: '):
-                file = os.path.join(where, line[6:])
-            elif line.startswith('old: '):
-                old = line[5:]
-            elif line.startswith('new: '):
-                with open(file, encoding='utf-8') as g:
-                    text = g.read()
-                if text.count(old) != 1:
-                    return f'an old text stands {text.count(old)} times in {os.path.relpath(file, where)}'
-                with open(file, 'w', encoding='utf-8') as g:
-                    g.write(text.replace(old, line[5:]))
-    return None
 
 
 def check(where):

@@ -1,0 +1,213 @@
+"""The edits of the crates that take long to prove, over a warm cache.
+
+`rt ci` proves every crate from nothing and tries each must-fail edit from nothing too, which takes a whole proof of the crate for each. The edits here,
+tests/edits/NAME/*.edit, are of the same form and are tried over what does not change. For each crate with edits the runner
+- lays it out in target/edits, with the crates below it, so that nothing in the tree is touched;
+- checks it there from nothing by `rt dev`, which leaves a cache of every module that it checked;
+- shows that the unedited crate is proved by the very same command over a copy of that cache, with no module left to check: a case of its own;
+- for each edit, makes a copy of the crate and of that cache, applies the edit and demands that the same command refuses it because a fact fails.
+So every edit begins with the cache of the unedited crate, and none sees what another left. A refusal for another reason (the proof names something that
+the edit took away, a text that does not parse, a crash) shows nothing, and is a failure. Of the edits that `rt ci` tried, crates/NAME/must-fail/*.edit, the
+logs that it left in target/must-fail are held to the same.
+
+What is trusted: for the crates below, target/rlib and target/stamp. `rt ci` has just proved them from nothing, and rt compares their sources with their
+stamps on every call; what is not there, or is older than its source, is proved first. The cache is made in this run, from nothing; a fault in it could
+only show as an unedited crate that is not proved, as an edit that is not refused, or as a refusal at a fact that does hold. Nothing here is a verdict on
+a crate: that is `rt ci` alone.
+
+    tests/edits/run.py [FOLDER]     the edits of another folder, FOLDER/NAME/*.edit, and no logs
+
+RT_JOBS edits run at a time, as in rt; where it is not set, as many as there are processors, at most 4. The last line is 'N passed, M failed'.
+"""
+import concurrent.futures, os, re, shutil, signal, subprocess, sys, time
+
+HERE = os.path.dirname(os.path.abspath(__file__))
+TOP = os.path.dirname(os.path.dirname(HERE))
+sys.dont_write_bytecode = True
+sys.path.insert(0, os.path.dirname(HERE))
+from edit import change
+
+WORK = os.path.join(TOP, 'target', 'edits')
+LONGEST = 900  # seconds for one check
+
+# How the prover says that a fact fails, at the start of an error. Every error that does not follow from another has to be one of these: whatever begins in
+# another way shows that the edit took something away that the proof names, or that a text does not fit.
+FACTS = [re.compile(form) for form in (
+    # The goal does not follow from what is known.
+    r'`omega`: the (goal|part `.*` of the goal) does not follow from what it read',
+    r'`search`: no proof of `.*` was found',
+    r'give a proof of that as the last argument.* so what it leaves must be a path whose two ends are equal, and `.*` is none',
+    # An equation that is known has nothing to say about the goal.
+    r'`simp`: no equation of the list has an instance in the goal `',
+    r'`rw`: no part of the goal `.*` is an instance of ',
+    r"`rw`: no occurrence of the path's (left|right) endpoint in the goal",
+    # The two sides of an equation differ.
+    r'(as printed|computed as far as they go), the two sides ',
+    r'`.*` ≟ `.*`:? does not hold \(this comparison',
+)]
+# One fact is given where another is wanted, if what is wanted says something of terms; a type of data, as `ℕ → ℕ`, has none in it.
+OTHER = re.compile(r'(?:expected type|(?:as printed|computed as far as they go), the two types) ')
+WANTED = re.compile(r'(?:expected type|the two types are) `([^`]*)`')
+MODULES = re.compile(r'[^\s(){}.]+\.(?=\S)')
+TERM = re.compile(r'[≡≤<∣]|\bPath\b|(?<![\w.])[a-z]')
+ERROR = re.compile(r'^(\S+?):(\d+):\d+: error(?:\[[\w-]+\])?: (?:`[^`\n]+`: )?(.*(?:\n  .*)*)', re.M)
+SEARCH = re.compile(r'^note: what antt said of a `search` in the proof that rattle made: (\S+?):(\d+):\d+: `[^`\n]+`: (.*(?:\n  .*)*)', re.M)
+FOLLOWS = re.compile(r'`[^`\n]+` (was not admitted .* so this cannot be checked|cannot be unfolded because it was not admitted)')
+
+
+def listed():
+    """The crates of crates.txt in their order, each with those that it names."""
+    crates = {}
+    with open(os.path.join(TOP, 'crates.txt'), encoding='utf-8') as f:
+        for line in f:
+            name, _, below = line.split('#')[0].partition(':')
+            if name.strip():
+                crates[name.strip()] = below.split()
+    return crates
+
+
+def rt(where, *words, longest=None):
+    """Runs rt in a folder: its exit status, None where it took too long, what it said, and the seconds."""
+    began = time.time()
+    ran = subprocess.Popen(['rt', *words], cwd=where, stdout=subprocess.PIPE, stderr=subprocess.STDOUT, encoding='utf-8', errors='replace',
+                           start_new_session=True)
+    try:
+        said, _ = ran.communicate(timeout=longest)
+        status = ran.returncode
+    except subprocess.TimeoutExpired:
+        os.killpg(ran.pid, signal.SIGKILL)
+        said, _ = ran.communicate()
+        status = None
+    return status, said, round(time.time() - began)
+
+
+def lay_out(where, name, crates):
+    """A repository with a copy of one crate; the other crates, and what was built of them, are the tree's own."""
+    os.makedirs(os.path.join(where, 'crates'))
+    os.makedirs(os.path.join(where, 'target', 'inc'))
+    shutil.copy(os.path.join(TOP, 'crates.txt'), where)
+    for crate in crates:
+        if crate != name:
+            os.symlink(os.path.join(TOP, 'crates', crate), os.path.join(where, 'crates', crate))
+    for part in ('src', 'specs', 'proofs'):
+        if os.path.isdir(os.path.join(TOP, 'crates', name, part)):
+            shutil.copytree(os.path.join(TOP, 'crates', name, part), os.path.join(where, 'crates', name, part))
+    for built in ('rlib', 'stamp'):
+        os.symlink(os.path.join(TOP, 'target', built), os.path.join(where, 'target', built))
+
+
+def over_cache(label, name, crates, edit):
+    """Lays out the crate with the unedited cache, applies the edit, if any, and checks: what is wrong with the edit, or else what rt gave."""
+    where = os.path.join(WORK, name, label)
+    lay_out(where, name, crates)
+    bad = change(os.path.join(where, 'crates', name), edit) if edit else None
+    if bad:
+        return bad, None
+    cache = os.path.join(where, 'target', 'inc', name)
+    shutil.copytree(os.path.join(WORK, name, 'cache'), cache)
+    status, said, took = rt(where, 'dev', name, longest=LONGEST)
+    shutil.rmtree(cache)
+    with open(where + '.log', 'w', encoding='utf-8') as f:
+        f.write(said)
+    return None, (status, said, took)
+
+
+def prepare(name, crates):
+    """Makes the cache, and shows that the unedited crate is proved over it: a line to print, and whether it is so."""
+    first = os.path.join(WORK, name, 'cold')
+    lay_out(first, name, crates)
+    status, said, cold = rt(first, 'dev', name, longest=LONGEST)
+    if status != 0 or not re.search(r'^logic=proved ', said, re.M):
+        return f'{name}: NOT PROVED unedited, from nothing (exit status {status}):\n{said[-3000:]}', False
+    os.rename(os.path.join(first, 'target', 'inc', name), os.path.join(WORK, name, 'cache'))
+    _, (status, said, took) = over_cache('unedited', name, crates, None)
+    whole = re.search(rf'^crate {name}: modules loaded=[1-9]\d* checked=0$', said, re.M)
+    if status != 0 or not whole or not re.search(r'^logic=proved .*\bincremental=trusted$', said, re.M):
+        return f'{name}: NOT PROVED unedited, over its cache (exit status {status}):\n{said[-3000:]}', False
+    return f'{name}: unedited, it is proved ({cold} s, {took} s over the cache)', True
+
+
+def fails(text):
+    """Whether an error says that a fact fails."""
+    wanted = WANTED.search(text) if OTHER.match(text) else None
+    return any(form.match(text) for form in FACTS) or bool(wanted and TERM.search(MODULES.sub('', wanted.group(1))))
+
+
+def refusal(said, home):
+    """The place of the prover's first own error, one that does not follow from another; and what shows no failed fact, or None."""
+    own = [m.groups() for m in ERROR.finditer(said) if not FOLLOWS.match(m.group(3))] + [m.groups() for m in SEARCH.finditer(said)]
+    if not own:
+        return 'no place', 'there is no error but such as follow from another'
+    place = f'{os.path.relpath(own[0][0], home)}:{own[0][1]}'
+    texts = [' '.join(text.split()) for _, _, text in own]
+    return place, next((text for text in texts if not fails(text)), None)
+
+
+def from_nothing(name, label):
+    """Reads the log of an edit that rt ci refused: a line to print, and whether a fact fails."""
+    where = os.path.join(TOP, 'target', 'must-fail', name, label)
+    if not os.path.isfile(os.path.join(where, '.log')):
+        return f'{name}/{label}: NOT TRIED by rt ci', False
+    with open(os.path.join(where, '.log'), encoding='utf-8', errors='replace') as f:
+        place, other = refusal(f.read(), where)
+    return f'{name}/{label}: ' + (f'NO FAILED FACT, first at {place}: {other[:300]}' if other else f'rt ci refused it at {place}'), not other
+
+
+def attempt(name, label, edit, crates, ready):
+    """Tries one edit: a line to print, and whether it is refused as it must be."""
+    one = f'{name}/{label}'
+    if not ready.result()[1]:
+        return f'{one}: NOT TRIED, since the unedited crate is not proved', False
+    bad, ran = over_cache(label, name, crates, edit)
+    if bad:
+        return f'{one}: BAD EDIT: {bad}', False
+    status, said, took = ran
+    if status == 0:
+        return f'{one}: NOT REFUSED: the crate is still proved with this edit ({took} s)', False
+    if status is None:
+        return f'{one}: NO ANSWER in {took} s', False
+    place, other = refusal(said, os.path.join(WORK, name, label, 'crates', name))
+    if status != 1 or not re.search(r'^logic=not-proved$', said, re.M):
+        return f'{one}: BAD EDIT: it did not reach the prover (exit status {status}), at {place}: {(other or said)[:300]}', False
+    if other:
+        return f'{one}: NO FAILED FACT, first at {place}: {other[:300]}', False
+    return f'{one}: refused at {place} ({took} s)', True
+
+
+def edits_in(folder):
+    """The edits of a folder, by label and path."""
+    found = sorted(f for f in os.listdir(folder) if f.endswith('.edit')) if os.path.isdir(folder) else []
+    return [(f[:-5], os.path.join(folder, f)) for f in found]
+
+
+def main():
+    home = os.path.abspath(sys.argv[1]) if len(sys.argv) > 1 else HERE
+    crates = listed()
+    lost = [name for name in sorted(os.listdir(home)) if name not in crates and edits_in(os.path.join(home, name))]
+    edits = {name: edits_in(os.path.join(home, name)) for name in crates if edits_in(os.path.join(home, name))}
+    shutil.rmtree(WORK, ignore_errors=True)
+    below = sorted({d for name in edits for d in crates[name] if d in crates})
+    status, said, _ = rt(TOP, 'check', *below) if below else (0, '', 0)
+    if lost or status != 0:
+        print(f'crates.txt does not list {lost[0]}, which has edits' if lost else f'the crates below are not proved:\n{said[-3000:]}')
+        print('0 passed, 1 failed')
+        return 1
+    passed = failed = 0
+    with concurrent.futures.ThreadPoolExecutor(int(os.environ.get('RT_JOBS') or min(4, os.cpu_count() or 1))) as pool:
+        ready = {name: pool.submit(prepare, name, crates) for name in edits}
+        cases = [ready[name] if edit is None else pool.submit(attempt, name, label, edit, crates, ready[name])
+                 for name in edits for label, edit in [('', None)] + edits[name]]
+        if home == HERE:
+            cases += [pool.submit(from_nothing, name, label) for name in crates for label, _ in edits_in(os.path.join(TOP, 'crates', name, 'must-fail'))]
+        for case in cases:
+            line, right = case.result()
+            print(line, flush=True)
+            passed, failed = passed + right, failed + (not right)
+    for name in edits:
+        shutil.rmtree(os.path.join(WORK, name, 'cache'), ignore_errors=True)
+    print(f'{passed} passed, {failed} failed')
+    return 0 if failed == 0 else 1
+
+
+if __name__ == '__main__':
+    sys.exit(main())
