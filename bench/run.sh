@@ -31,11 +31,11 @@ cat <<PAGE
 
 ## The screen on links that are hard on it
 
-Long chains of jobs in the worst order (\`bench/slow.c\`). A set without a cycle costs its links, times the longest chain at worst. Where there is a cycle, jobs
-that ranks along and against the links leave open are searched one by one: those between two cycles.
+Long chains of jobs in the worst order (\`bench/slow.c\`). A set without a cycle costs its links, times the longest chain at worst. Where 64 rounds do not show
+that there is no cycle, job after job is searched, each search at the cost of its jobs and links at most.
 
 PAGE
-$cc -O2 bench/slow.c "$archive" -o target/bench/slow
+$cc -O2 bench/slow.c bench/plain.c "$archive" -o target/bench/slow
 $run target/bench/slow
 
 sections=$($size -A "$archive")

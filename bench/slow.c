@@ -1,6 +1,7 @@
 /* Times flute_screen on the largest sets whose links are hard on it: long chains of jobs that stand in the worst order, alone, into a cycle, out of one, and
-   between two. Prints a table: what was answered, and the processor's milliseconds of the fastest of three calls. */
+   between two. Prints a table: what was answered, and the processor's milliseconds of the fastest of three calls, of the archive and of plain C. */
 #include "../include/flute.h"
+#include "plain.h"
 #include <stdio.h>
 #include <string.h>
 #include <time.h>
@@ -96,7 +97,7 @@ static double now(void)
 static void measure(const char *what)
 {
     uint32_t i, jobs = 0, links, answer = 0;
-    double best = 0;
+    double best = 0, plain = 0;
     length = 0;
     put(1);
     put(set.tasks);
@@ -116,7 +117,40 @@ static void measure(const char *what)
         if (!i || took < best)
             best = took;
     }
-    printf("| %s | %u | %u | %u %u %u | %.1f |\n", what, jobs, links, answer, flute_screen_evidence(bytes, length, 0), flute_screen_evidence(bytes, length, 1), best);
+    for (i = 0; i < 3 && plain < 1000; i++) {
+        double start = now(), took;
+        plain_answer r = plain_screen(bytes, length);
+        took = now() - start;
+        if (r.number != answer)
+            printf("PLAIN C SAYS %u\n", r.number);
+        if (!i || took < plain)
+            plain = took;
+    }
+    printf("| %s | %u | %u | %u %u %u | %.2f | %.2f |\n", what, jobs, links, answer, flute_screen_evidence(bytes, length, 0), flute_screen_evidence(bytes, length, 1), best, plain);
+}
+
+/* The set with its tasks in the opposite order, and so its links: what is a good order for releases is a bad one for deadlines. */
+static void turn(void)
+{
+    uint32_t i, n = set.tasks;
+    for (i = 0; i < n / 2; i++) {
+        uint32_t t = set.period[i];
+        set.period[i] = set.period[n - 1 - i];
+        set.period[n - 1 - i] = t;
+    }
+    for (i = 0; i < set.pairs; i++) {
+        set.pair[i].from = n - 1 - set.pair[i].from;
+        set.pair[i].to = n - 1 - set.pair[i].to;
+    }
+}
+
+static void measure_both(const char *what)
+{
+    char turned[64];
+    measure(what);
+    turn();
+    snprintf(turned, sizeof turned, "%s, tasks turned round", what);
+    measure(turned);
 }
 
 /* One chain through all jobs: down the tasks 62 to 0 in each of 32 columns, and by task 63, which has 31 jobs, on to the next column. Links that come later
@@ -192,20 +226,20 @@ static void four(int in, int out)
 
 int main(void)
 {
-    printf("| links | jobs | links in a cycle | number and evidence | ms |\n|---|---:|---:|---|---:|\n");
+    printf("| links | jobs | links in a cycle | number and evidence | archive, ms | plain C, ms |\n|---|---:|---:|---|---:|---:|\n");
     chain(0, 0);
-    measure("a chain in bad order");
+    measure_both("a chain in bad order");
     chain(1, 0);
-    measure("into a cycle");
+    measure_both("into a cycle");
     chain(0, 1);
-    measure("out of one");
+    measure_both("out of one");
     between();
-    measure("between two");
+    measure_both("between two");
     four(0, 0);
-    measure("four chains in bad order");
+    measure_both("four chains in bad order");
     four(1, 0);
-    measure("each into a cycle");
+    measure_both("each into a cycle");
     four(0, 1);
-    measure("each out of one");
+    measure_both("each out of one");
     return 0;
 }

@@ -21,9 +21,9 @@ answer that document 01 prescribes: this number with this evidence, and no other
 every input there is.''',
      [('dispatcher/specs/Outcome.antt', 'one-outcome', 'for a step only one answer, one next state and one output are allowed'),
       ('screen/specs/Written.antt', 'answered-once', 'for adjusted times only one answer and one content of both buffers are allowed'),
-      ('reader/specs/ReadLaws.antt', 'read-sound', 'tasks that are read keep every rule of the paper'),
-      ('reader/specs/ReadLaws.antt', 'read-long', 'a plan that is read has a slot for every tick and processor'),
-      ('reader/specs/ReadLaws.antt', 'read-slots', 'a plan that is read names no unknown task')]),
+      ('reader/proofs/ReadLaws.antt', 'read-sound', 'tasks that are read keep every rule of the paper'),
+      ('reader/proofs/ReadLaws.antt', 'read-long', 'a plan that is read has a slot for every tick and processor'),
+      ('reader/proofs/ReadLaws.antt', 'read-slots', 'a plan that is read names no unknown task')]),
     ('Demand 2: accepted means right for ever, and nothing right is turned away', '''
 The judge says yes exactly to the plans whose endless repetition gives every job its full running time between its release and its deadline, gives it no tick
 outside, never runs it on two processors at once, and keeps every order that is asked for. To any other plan it says no, names the first rule that is broken, and
@@ -73,6 +73,11 @@ def files(folder, ending):
         for name in sorted(names):
             if name.endswith(ending):
                 yield os.path.relpath(os.path.join(base, name), TOP)
+
+
+def law_files(crate):
+    """The files of laws that stand among a crate's proofs."""
+    return [path for path in files(f'crates/{crate}/proofs', '.antt') if os.path.basename(path) not in ('Proof.antt', 'Lib.antt')]
 
 
 # ---- the tree
@@ -202,7 +207,7 @@ def proofs_section(lines, tried, crates):
             problems.append(f'The log does not say that `{crate}` is proved.')
         elif seen != len(fns):
             problems.append(f'`{crate}` has {len(fns)} functions, and the log shows {seen} as proved.')
-        said = [s for path in files(f'crates/{crate}/specs', '.antt') for s in statements(path)]
+        said = [s for path in [*files(f'crates/{crate}/specs', '.antt'), *law_files(crate)] for s in statements(path)]
         definitions, laws = sum(kind == 'definition' for kind, _ in said), sum(kind == 'law' for kind, _ in said)
         wrong = wrong_edits(crate)
         unseen = [label for label in wrong if (crate, label) not in refused]

@@ -36,7 +36,7 @@ def reached():
 
 
 def types_only(text):
-    """The structs, enums and `use` lines of a source: what definitions can name."""
+    """The structs, enums, names of types and `use` lines of a source: what definitions can name."""
     text = re.sub(r'//[^\n]*', '', text)
     kept, at = [], 0
     item = re.compile(r'\s*(?:#\[[^\]]*\]\s*)*(?:pub\s+)?(?:extern\s+"C"\s+)?(ghost use|use|struct|enum|const|fn|impl|mod|type)\b')
@@ -48,19 +48,20 @@ def types_only(text):
         depth = 0
         while end < len(text):
             c = text[end]
-            if c == '{':
+            if c in '{[':
                 depth += 1
-            elif c == '}':
+            elif c in '}]':
                 depth -= 1
-                if depth == 0 and word not in ('use', 'ghost use') and not re.match(r'\s*(requires|ensures|\{)', text[end + 1:]):
+                if c == '}' and depth == 0 and word not in ('use', 'ghost use') and not re.match(r'\s*(requires|ensures|\{)', text[end + 1:]):
                     end += 1
                     break
             elif c == ';' and depth == 0:
                 end += 1
                 break
             end += 1
-        if word in ('use', 'struct', 'enum'):
-            kept.append(text[at:end].strip())
+        piece = text[at:end].strip()
+        if word in ('struct', 'enum', 'type') or word == 'use' and re.search(r'::[A-Z]\w*;$', piece):
+            kept.append(piece)
         at = end
     return '\n'.join(kept) + '\n'
 

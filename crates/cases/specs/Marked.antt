@@ -15,23 +15,24 @@ use Rattle.graph.specs.Graph.{reach, loops}
 use Rattle.graph.specs.Longest as longest
 use Rattle.graph.specs.Soonest as soonest
 use Rattle.kinds.specs.Limits.{holds, rises}
-use Rattle.kinds.specs.Tasks.{Set, view, pairsBefore}
+use Rattle.kinds.specs.Tasks.{Set, view, pairsIn}
 use Rattle.kinds.specs.Cycle.{cycle, jobsOf, jobsBefore, jobs, cycleFits}
 use Rattle.kinds.specs.Jobs.{release, due, inWindow, numberOfJob, taskOfJob, jobOfJob}
 use Rattle.kinds.specs.Links.{common, linkFrom, linkTo, repeats, linksOf, links, inner, spansOf, linksIn}
 use Rattle.kinds.specs.Sound.{attributesFit, taskFits, pairKey, pairFits, patternKey, headingFits, patternFits, openingFits, sound}
 use Rattle.kinds.specs.Plans.{slot, shows, shown, awake, runs, ticks}
-use Rattle.reader.specs.Numbers.{numberAt, held, gotAt, andThen}
-use Rattle.reader.specs.Tables.{taskFrom, onTask, tasksFrom, twoAt, onTwo, pairsFrom, onTwoHeading, headingAt, onHeading, onPairs, patternsFrom}
-use Rattle.reader.specs.Files.{openingOf, middleFrom, onOpening, onTasks, onMiddle, onPatterns, headFrom, slotsFrom, onSlots, onHead, readOf}
+use Rattle.numbers.specs.Numbers.{numberAt, held, gotAt, andThen}
+use Rattle.heads.specs.Tables.{taskFrom, onTask, tasksFrom, twoAt, onTwo, pairsFrom, onTwoHeading, headingAt, onHeading, onPairs, patternsFrom}
+use Rattle.heads.specs.Heads.{openingOf, middleFrom, onOpening, onTasks, onMiddle, onPatterns, headFrom}
+use Rattle.reader.specs.Files.{slotsFrom, onSlots, onHead, readOf}
 use Rattle.judge.specs.Rules.{high, twin, mated, clashes, strays, strayed, miscounts, miscounted, against, bars, broken, breaks, brokenPair, brokenPattern}
 use Rattle.judge.specs.Judgement.{highAt, twiceAt, outsideAt, wrongAt, brokenAt, planRules, rules, verdictOf}
 use Rattle.screen.specs.Network.{pairLinks, patternLinks, cycleLinks, linkStarts, linkEnds, network}
 use Rattle.screen.specs.Times.{ownRelease, ownDue, ownRunning, releaseWeight, adjustedRelease, adjustedDeadline}
-use Rattle.screen.specs.Findings.{onCycle, load, room, tight, findingOf}
-use Rattle.dispatcher.specs.Steps.{releases, heard, doneAt, doneOf, asleep, byteOf, rowOf, standsAt, inRow, ranOf, stepOf}
+use Rattle.screen.specs.Findings.{onCycle, load, room, tight, screenRules, findingOf}
+use Rattle.dispatcher.specs.Steps.{releases, heard, doneAt, doneOf, asleep, byteOf, rowOf, standsAt, inRow, ranOf, afterOf, stepOf}
 use Rattle.dispatcher.specs.Runs.{stateAt, shownAt}
-use Rattle.cases.specs.Questions.{Question, Reply, is, refusedBy, says, times, rows, reply, numberReply, setOf, silence, reportAfter}
+use Rattle.cases.specs.Questions.{Question, Reply, is, refusedBy, says, times, rows, reply, numberReply, taskNumbers, headingNumbers, pairNumbers, setOf, silence, reportAfter}
 use Rattle.cases.specs.Questions as ask
 
 -- ---- A
@@ -125,5 +126,5 @@ cases =
 
 -- ==== The definitions answer every marked case as document 01 prints it.
 marked-cases : map (λ (c : Question × Reply). reply (c .0)) cases ≡ map (λ (c : Question × Reply). c .1) cases
-unfolding cases fileA setA slotsA setC slotsC setD setG setH setI setJ setK minus reply numberReply setOf silence reportAfter least all count total table join gather has pack lcm lcmOf reach loops longest.most longest.entry longest.rounds soonest.fewest soonest.due soonest.soonest holds rises pairsBefore cycle jobsOf jobsBefore jobs cycleFits release due inWindow numberOfJob taskOfJob jobOfJob common linkFrom linkTo repeats linksOf links inner spansOf linksIn attributesFit taskFits pairKey pairFits patternKey headingFits patternFits openingFits sound slot shows shown awake runs ticks numberAt held gotAt andThen taskFrom onTask tasksFrom twoAt onTwo pairsFrom onTwoHeading headingAt onHeading onPairs patternsFrom openingOf middleFrom onOpening onTasks onMiddle onPatterns headFrom slotsFrom onSlots onHead readOf high twin mated clashes strays strayed miscounts miscounted against bars broken breaks brokenPair brokenPattern highAt twiceAt outsideAt wrongAt brokenAt firstOf planRules rules verdictOf pairLinks patternLinks cycleLinks linkStarts linkEnds network ownRelease ownDue ownRunning releaseWeight adjustedRelease adjustedDeadline onCycle load room tight findingOf releases heard doneAt doneOf asleep byteOf rowOf standsAt inRow ranOf stepOf stateAt shownAt
+unfolding cases fileA setA slotsA setC slotsC setD setG setH setI setJ setK minus reply numberReply taskNumbers headingNumbers pairNumbers setOf silence reportAfter least all count total table join gather has pack lcm lcmOf reach loops longest.most longest.entry longest.rounds soonest.fewest soonest.due soonest.soonest holds rises pairsIn cycle jobsOf jobsBefore jobs cycleFits release due inWindow numberOfJob taskOfJob jobOfJob common linkFrom linkTo repeats linksOf links inner spansOf linksIn attributesFit taskFits pairKey pairFits patternKey headingFits patternFits openingFits sound slot shows shown awake runs ticks numberAt held gotAt andThen taskFrom onTask tasksFrom twoAt onTwo pairsFrom onTwoHeading headingAt onHeading onPairs patternsFrom openingOf middleFrom onOpening onTasks onMiddle onPatterns headFrom slotsFrom onSlots onHead readOf high twin mated clashes strays strayed miscounts miscounted against bars broken breaks brokenPair brokenPattern highAt twiceAt outsideAt wrongAt brokenAt firstOf planRules rules verdictOf pairLinks patternLinks cycleLinks linkStarts linkEnds network ownRelease ownDue ownRunning releaseWeight adjustedRelease adjustedDeadline onCycle load room tight screenRules findingOf releases heard doneAt doneOf asleep byteOf rowOf standsAt inRow ranOf afterOf stepOf stateAt shownAt
 marked-cases = refl

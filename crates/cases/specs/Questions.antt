@@ -1,5 +1,5 @@
 -- What can be asked of the definitions, and what they answer, in document 01's numbers.
-use mathlib.Core.List.{List, _∷_, map}
+use mathlib.Core.List.{List, [], _∷_}
 use Prim.Native.Nat.{ℕ, suc, _+_, _^_}
 use lib.Dec.{eqb}
 use lib.IntN.{ℤ}
@@ -9,10 +9,10 @@ use Rattle.vocabulary.specs.Table.{table}
 use Rattle.kinds.specs.Limits.{range}
 use Rattle.kinds.specs.Tasks.{Set, tasksOf, patternsOf}
 use Rattle.kinds.specs.Cycle.{jobs}
-use Rattle.reader.specs.declared.Got.{Got}
-use Rattle.reader.specs.declared.Got.the-variants as got
-use Rattle.reader.specs.declared.Refusal.the-variants as refusal
-use Rattle.reader.specs.Numbers.{gotAt}
+use Rattle.numbers.specs.declared.Got.{Got}
+use Rattle.numbers.specs.declared.Got.the-variants as got
+use Rattle.numbers.specs.declared.Refusal.the-variants as refusal
+use Rattle.numbers.specs.Numbers.{gotAt}
 use Rattle.reader.specs.Files.{readOf}
 use Rattle.reader.specs.Answers as readerAnswers
 use Rattle.judge.specs.Judgement.{verdictOf}
@@ -64,14 +64,26 @@ TaskRow = ℕ × ℕ × ℕ × ℕ
 abbrev pub PatternRow : Type 0
 PatternRow = ℕ × ℕ × ℕ × ℕ
 
+-- their numbers, one row after another
+unfoldable pub taskNumbers : List TaskRow → List ℕ
+taskNumbers [] = []
+taskNumbers (t ∷ ts) = t .0 ∷ t .1 ∷ t .2 ∷ t .3 ∷ taskNumbers ts
+
+unfoldable pub headingNumbers : List PatternRow → List ℕ
+headingNumbers [] = []
+headingNumbers (p ∷ ps) = p .0 ∷ p .1 ∷ 1 ∷ headingNumbers ps
+
+unfoldable pub pairNumbers : List PatternRow → List ℕ
+pairNumbers [] = []
+pairNumbers (p ∷ ps) = p .2 ∷ p .3 ∷ pairNumbers ps
+
 unfoldable pub setOf : ℕ → List TaskRow → List PatternRow → Set
 setOf m ts ps =
     record {
       edition = 1;
       processors = m;
-      tasks = tasksOf (length ts) (map (λ (t : TaskRow). t .0) ts) (map (λ (t : TaskRow). t .1) ts) (map (λ (t : TaskRow). t .2) ts) (map (λ (t : TaskRow). t .3) ts);
-      patterns =
-          patternsOf (length ps) (map (λ (p : PatternRow). p .0) ps) (map (λ (p : PatternRow). p .1) ps) (map (λ (p : PatternRow). 1) ps) (map (λ (p : PatternRow). p .2) ps) (map (λ (p : PatternRow). p .3) ps);
+      tasks = tasksOf (length ts) (taskNumbers ts);
+      patterns = patternsOf (length ps) (headingNumbers ps) (pairNumbers ps);
     }
 
 -- nobody reports

@@ -1,2 +1,2 @@
-pub mod Room
 pub mod Signed
+pub mod Lines

@@ -1,13 +1,21 @@
-// What the programs share: the input that they are given, and lines of text made in a lent buffer.
+// What the programs share: the input that they are given, and lines of text.
 ghost use mathlib.Core.Path.{_≡_};
-ghost use Prim.Native.Nat.{_≤_};
 ghost use Rattle.io.specs.Counts.{Counts};
+ghost use lib.ListN.{length};
 ghost use Rattle.console.specs.Signed.{sizeOf};
+ghost use Rattle.console.specs.Lines.{putByte, putFirst, Continues};
+use libc::STDOUT_FILENO;
 
 // Whether the input could be opened, and how many of its bytes stand at the start of the buffer.
 pub struct Input {
     pub open: bool,
     pub length: usize,
+}
+
+// A line of text, as far as it is made. It goes by value from one function that adds to it to the next.
+pub struct Line {
+    text: [u8; 256],
+    length: usize,
 }
 
 // Reads the file that the first argument names, or standard input where there is none, into buf. A file that cannot be opened gets a line on
@@ -48,58 +56,11 @@ pub fn load_named(i: usize, buf: &mut [u8]) -> Input
     }
 }
 
-fn within(at: usize, length: usize) -> usize
-    ensures { λ r. ⌜ r ≤ length ⌝ }
+// How many bytes of a text count, at most all.
+fn within(n: usize, text: &[u8]) -> usize
+    ensures { λ r. ⌜ Counts r (now (text .entry)) ⌝ }
 {
-    if at < length { at } else { length }
-}
-
-// Puts the bytes of s into out from place at on, as far as there is room, and answers the place after them.
-pub fn put(out: &mut [u8], at: usize, s: &[u8]) -> usize
-    ensures { λ r. ⌜ Counts r (now (out .exit)) ⌝ }
-{
-    let mut i: usize = 0;
-    let mut to = within(at, out.len());
-    while i < s.len() {
-        if out.len() <= to {
-            return to;
-        }
-        out[to] = s[i];
-        to += 1;
-        i += 1;
-    }
-    to
-}
-
-// Puts a number there.
-pub fn put_number(out: &mut [u8], at: usize, x: u64) -> usize
-    ensures { λ r. ⌜ Counts r (now (out .exit)) ⌝ }
-{
-    let mut digits = [0u8; 20];
-    let k = io::decimal(x, &mut digits);
-    put(out, at, &digits[..k])
-}
-
-// How many of the blanks stand before k digits in a column of some width.
-fn gap(width: usize, k: usize, blanks: &[u8]) -> usize
-    ensures { λ r. ⌜ Counts r (now (blanks .entry)) ⌝ }
-{
-    if width < k {
-        return within(0, blanks.len());
-    }
-    within(width - k, blanks.len())
-}
-
-// Puts a number there, behind as many blanks as make it width wide, for a column.
-pub fn put_column(out: &mut [u8], at: usize, x: u64, width: usize) -> usize
-    ensures { λ r. ⌜ Counts r (now (out .exit)) ⌝ }
-{
-    let mut digits = [0u8; 20];
-    let k = io::decimal(x, &mut digits);
-    let blanks = [b' '; 20];
-    let n = gap(width, k, &blanks);
-    let to = put(out, at, &blanks[..n]);
-    put(out, to, &digits[..k])
+    if n <= text.len() { n } else { text.len() }
 }
 
 // A number without its sign.
@@ -112,26 +73,110 @@ fn size_of(x: i32) -> u64
     x as u64
 }
 
-// Puts a signed number there.
-pub fn put_signed(out: &mut [u8], at: usize, x: i32) -> usize
-    ensures { λ r. ⌜ Counts r (now (out .exit)) ⌝ }
-{
-    let size = size_of(x);
-    if x < 0 {
-        let to = put(out, at, b"-");
-        return put_number(out, to, size);
-    }
-    put_number(out, at, size)
-}
+impl Line {
+    const LONGEST: usize = 256;
 
-// Puts a signed number there, behind as many blanks as make it width wide.
-pub fn put_signed_column(out: &mut [u8], at: usize, x: i32, width: usize) -> usize
-    ensures { λ r. ⌜ Counts r (now (out .exit)) ⌝ }
-{
-    let mut text = [0u8; 20];
-    let k = put_signed(&mut text, 0, x);
-    let blanks = [b' '; 20];
-    let n = gap(width, k, &blanks);
-    let to = put(out, at, &blanks[..n]);
-    put(out, to, &text[..k])
+    pub fn new() -> Line
+        ensures { λ r. ⌜ r .length ≡ 0 ⌝ }
+    {
+        Line {
+            text: [0; 256],
+            length: 0,
+        }
+    }
+
+    // The line with a byte behind it; a line that is full stays as it is.
+    pub fn put_byte(mut self, x: u8) -> Line
+        ensures { λ r. ⌜ r ≡ putByte self x ⌝ }
+    {
+        let at = self.length;
+        if Line::LONGEST <= at {
+            return self;
+        }
+        self.text[at] = x;
+        self.length = at + 1;
+        self
+    }
+
+    // The line with words behind it, as far as there is room.
+    pub fn put(self, words: &[u8]) -> Line
+        ensures { λ r. ⌜ r ≡ putFirst self (now (words .entry)) (length (now (words .entry))) ⌝ }
+    {
+        let mut line = self;
+        let mut i: usize = 0;
+        while i < words.len() {
+            line = line.put_byte(words[i]);
+            i += 1;
+        }
+        line
+    }
+
+    // With the first n bytes of words behind it, or all where there are fewer.
+    pub fn put_first(self, words: &[u8], n: usize) -> Line
+        ensures { λ r. ⌜ Continues self r ⌝ }
+    {
+        let k = within(n, words);
+        self.put(&words[..k])
+    }
+
+    // With a number behind it.
+    pub fn put_number(self, x: u64) -> Line
+        ensures { λ r. ⌜ Continues self r ⌝ }
+    {
+        let mut digits = [0u8; 20];
+        let k = io::decimal(x, &mut digits);
+        self.put(&digits[..k])
+    }
+
+    // With words and a number.
+    pub fn put_named(self, words: &[u8], x: u64) -> Line
+        ensures { λ r. ⌜ Continues self r ⌝ }
+    {
+        self.put(words).put_number(x)
+    }
+
+    // With a signed number.
+    pub fn put_signed(self, x: i32) -> Line
+        ensures { λ r. ⌜ Continues self r ⌝ }
+    {
+        let size = size_of(x);
+        if x < 0 {
+            return self.put_named(b"-", size);
+        }
+        self.put_number(size)
+    }
+
+    // With the text of another line, behind as many blanks as make it width wide.
+    fn put_right(self, other: Line, width: usize) -> Line
+        ensures { λ r. ⌜ Continues self r ⌝ }
+    {
+        let mut line = self;
+        let mut i = other.length;
+        while i < width {
+            line = line.put_byte(b' ');
+            i += 1;
+        }
+        let text = other.text;
+        line.put_first(&text, other.length)
+    }
+
+    // With a number in a column of some width.
+    pub fn put_column(self, x: u64, width: usize) -> Line
+        ensures { λ r. ⌜ Continues self r ⌝ }
+    {
+        self.put_right(Line::new().put_number(x), width)
+    }
+
+    // With a signed number in a column.
+    pub fn put_signed_column(self, x: i32, width: usize) -> Line
+        ensures { λ r. ⌜ Continues self r ⌝ }
+    {
+        self.put_right(Line::new().put_signed(x), width)
+    }
+
+    pub fn print(self) {
+        let text = self.text;
+        let n = within(self.length, &text);
+        io::write_all(STDOUT_FILENO, &text[..n]);
+    }
 }

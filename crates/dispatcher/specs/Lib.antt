@@ -1,14 +1,8 @@
 pub mod Answers
 pub mod Steps
 pub mod Refusals
-pub mod Runs
 pub mod Bytes
-pub mod Laws
-pub mod ByteLaws
 pub mod Outcome
-pub mod Tables
-pub mod StepLaws
-pub mod SetLaws
-pub mod Wire
-pub mod Heads
-pub mod HeadLaws
+pub mod Runs
+pub mod ForC
+pub mod Looks

@@ -13,12 +13,15 @@ use Rattle.dispatcher.specs.Refusals.{steppedOf, leftOf}
 use Rattle.dispatcher.specs.Bytes.{bytesOf}
 
 -- "For every input, refused or not, a call's statement determines answer, evidence, next state and each byte lent for writing."
-pub record Outcome (s : Set) (slots : List ℕ) (state : State) (report : ℕ) (out : List ℕ) (r : Stepped) (out′ : List ℕ) : Type 0 where
+pub record StepOutcome (s : Set) (slots : List ℕ) (state : State) (report : ℕ) (out : List ℕ) (r : Stepped) (out′ : List ℕ) : Type 0 where
   pub answer : r ≡ steppedOf s slots state report out
   pub left : out′ ≡ leftOf s slots state report out
 
 -- two outcomes of a step are equal
-pub one-outcome : {s : Set} {slots : List ℕ} {state : State} {report : ℕ} {out : List ℕ} {r t : Stepped} {a b : List ℕ} → Outcome s slots state report out r a → Outcome s slots state report out t b → (r ≡ t) × (a ≡ b)
+pub one-outcome : {s : Set} {slots : List ℕ} {state : State} {report : ℕ} {out : List ℕ} {r t : Stepped} {a b : List ℕ}
+    → StepOutcome s slots state report out r a
+    → StepOutcome s slots state report out t b
+    → (r ≡ t) × (a ≡ b)
 one-outcome p q = (p .answer ∙ sym (q .answer), p .left ∙ sym (q .left))
 
 -- "For the C side the state is 21 bytes": writing leaves them where there is room for just these, else what was there

@@ -11,6 +11,17 @@ use Rattle.vocabulary.specs.Table.{table}
 use Rattle.kinds.specs.Tasks.{Tasks, period, offset}
 use Rattle.dispatcher.specs.declared.State.{State}
 
+-- What a step is about: tasks, m and H; the tick's slots, row 0, .., row (m - 1), of which the first stands at a place of the plan; the state before the
+-- tick and the report that the step is handed.
+pub record OneTick : Type 0 where
+  pub tasks : Tasks
+  pub processors : ℕ
+  pub cycle : ℕ
+  pub row : ℕ → ℕ
+  pub place : ℕ
+  pub state : State
+  pub report : ℕ
+
 -- slot tick c releases a job of task i: h is the cycle, a multiple of the period, so that adding it keeps the remainder
 unfoldable pub releases : Tasks → ℕ → ℕ → ℕ → Bool
 releases u h i c = eqb ((c + h - offset u i) % period u i) 0
@@ -23,8 +34,8 @@ heard s report i = has (s .ran) i && has report i
 unfoldable pub doneAt : Tasks → ℕ → State → ℕ → ℕ → Bool
 doneAt u h s report i = not (releases u h i (s .tick)) && (has (s .done) i || heard s report i)
 
-unfoldable pub doneOf : Tasks → ℕ → State → ℕ → ℕ
-doneOf u h s report = pack (doneAt u h s report) (u .count)
+unfoldable pub doneOf : OneTick → ℕ
+doneOf k = pack (doneAt (k .tasks) (k .cycle) (k .state) (k .report)) (k .tasks .count)
 
 -- the task is not yet awake: the first cycle has not come to its first release
 unfoldable pub asleep : Tasks → State → ℕ → Bool
@@ -34,9 +45,9 @@ asleep u s i = s .first && ltb (s .tick) (offset u i)
 unfoldable pub byteOf : Tasks → State → ℕ → ℕ → ℕ
 byteOf u s done v = pick (eqb v 0 || (asleep u s (v - 1) || has done (v - 1))) 0 v
 
--- the bytes of a tick whose slots are row 0, .., row (m - 1)
-unfoldable pub rowOf : Tasks → ℕ → ℕ → (ℕ → ℕ) → State → ℕ → List ℕ
-rowOf u m h row s report = table (λ q. byteOf u s (doneOf u h s report) (row q)) m
+-- the bytes of the tick
+unfoldable pub rowOf : OneTick → List ℕ
+rowOf k = table (λ q. byteOf (k .tasks) (k .state) (doneOf k) (k .row q)) (k .processors)
 
 -- "The ran marks become the tasks shown".
 unfoldable pub standsAt : List ℕ → ℕ → ℕ → Bool
@@ -49,11 +60,14 @@ unfoldable pub ranOf : List ℕ → ℕ → ℕ
 ranOf bytes n = pack (inRow bytes) n
 
 -- "the tick goes on by one, from H − 1 to 0, which ends the first cycle."
-unfoldable pub stepOf : Tasks → ℕ → ℕ → (ℕ → ℕ) → State → ℕ → State
-stepOf u m h row s report =
+unfoldable pub afterOf : ℕ → State → ℕ → ℕ → State
+afterOf h s done ran =
     record {
       tick = pick (ltb (s .tick + 1) h) (s .tick + 1) 0;
       first = s .first && ltb (s .tick + 1) h;
-      done = doneOf u h s report;
-      ran = ranOf (rowOf u m h row s report) (u .count);
+      done = done;
+      ran = ran;
     }
+
+unfoldable pub stepOf : OneTick → State
+stepOf k = afterOf (k .cycle) (k .state) (doneOf k) (ranOf (rowOf k) (k .tasks .count))

@@ -4,10 +4,10 @@ ghost use Prim.Native.Nat.{_%_};
 ghost use Rattle.judge.specs.Answers as judgeAnswers;
 ghost use Rattle.screen.specs.Answers as screenAnswers;
 ghost use Rattle.judge.specs.Heads.{judgedOf};
+ghost use Rattle.screen.specs.Heads.{screenedOf};
 ghost use Rattle.dispatcher.specs.Answers as stepAnswers;
-ghost use Rattle.dispatcher.specs.Heads.{begunOf, leftAfter};
-ghost use Rattle.flute.specs.Calls.{evidenceIn, readNumber, readEvidence, screened, Started, Stepped};
-use screen::Finding;
+ghost use Rattle.dispatcher.specs.ForC.{startFor, stepFor};
+ghost use Rattle.flute.specs.Calls.{evidenceIn, readNumber, readEvidence, StartLeft, StepLeft};
 
 mod adjust;
 
@@ -49,16 +49,16 @@ pub extern "C" fn flute_judge_evidence(tasks: &[u8], plan: &[u8], which: u32) ->
 
 #[no_mangle]
 pub extern "C" fn flute_start(tasks: &[u8], plan: &[u8], state: &mut [u8]) -> u32
-    ensures { λ r. ⌜ Started (begunOf (now (tasks .entry)) (now (plan .entry)) (now (state .entry))) r (now (state .exit)) ⌝ }
+    ensures { λ r. ⌜ StartLeft (startFor (now (tasks .entry)) (now (plan .entry)) (now (state .entry))) r (now (state .exit)) ⌝ }
 {
     judge::number_of(dispatcher::start_head(tasks, plan, state))
 }
 
 #[no_mangle]
 pub extern "C" fn flute_start_evidence(tasks: &[u8], plan: &[u8], state: &[u8], which: u32) -> u32
-    ensures { λ r. ⌜ r ≡ evidenceIn (judgeAnswers.evidenceOf (begunOf (now (tasks .entry)) (now (plan .entry)) (now (state .entry)) .verdict)) which ⌝ }
+    ensures { λ r. ⌜ r ≡ evidenceIn (judgeAnswers.evidenceOf (startFor (now (tasks .entry)) (now (plan .entry)) (now (state .entry)) .verdict)) which ⌝ }
 {
-    narrow(judge::evidence_of(dispatcher::start_verdict(tasks, plan, state), which))
+    narrow(judge::evidence_of(dispatcher::start_verdict(tasks, plan, state.len()), which))
 }
 
 #[no_mangle]
@@ -69,7 +69,7 @@ pub extern "C" fn flute_step(
     state: &mut [u8],
     out: &mut [u8],
 ) -> u32
-    ensures { λ r. ⌜ Stepped (leftAfter (now (tasks .entry)) (now (plan .entry)) report (now (state .entry)) (now (out .entry))) r (now (state .exit)) (now (out .exit)) ⌝ }
+    ensures { λ r. ⌜ StepLeft (stepFor (now (tasks .entry)) (now (plan .entry)) report (now (state .entry)) (now (out .entry))) r (now (state .exit)) (now (out .exit)) ⌝ }
 {
     dispatcher::number_of(dispatcher::step_head(tasks, plan, report, state, out))
 }
@@ -83,36 +83,23 @@ pub extern "C" fn flute_step_evidence(
     out: &[u8],
     which: u32,
 ) -> u32
-    ensures { λ r. ⌜ r ≡ evidenceIn (stepAnswers.evidenceOf (leftAfter (now (tasks .entry)) (now (plan .entry)) report (now (state .entry)) (now (out .entry)) .answer)) which ⌝ }
+    ensures { λ r. ⌜ r ≡ evidenceIn (stepAnswers.evidenceOf (stepFor (now (tasks .entry)) (now (plan .entry)) report (now (state .entry)) (now (out .entry)) .answer)) which ⌝ }
 {
-    narrow(dispatcher::evidence_of(
-        dispatcher::step_answer(tasks, plan, report, state, out),
-        which,
-    ))
-}
-
-// The screen, on tasks as a file's head.
-fn screen_head(tasks: &[u8]) -> Finding
-    ensures { λ r. ⌜ r ≡ screened (now (tasks .entry)) ⌝ }
-{
-    let taking = reader::take_head(tasks);
-    if taking.fits {
-        let set = taking.set;
-        return screen::screen(set);
-    }
-    Finding::BadSet
+    let look = dispatcher::look_head(tasks, plan, report, state, out.len());
+    let answer = look.answer;
+    narrow(dispatcher::evidence_of(answer, which))
 }
 
 #[no_mangle]
 pub extern "C" fn flute_screen(tasks: &[u8]) -> u32
-    ensures { λ r. ⌜ r ≡ screenAnswers.findingNumber (screened (now (tasks .entry))) ⌝ }
+    ensures { λ r. ⌜ r ≡ screenAnswers.findingNumber (screenedOf (now (tasks .entry))) ⌝ }
 {
-    screen::number_of(screen_head(tasks))
+    screen::number_of(screen::screen_head(tasks))
 }
 
 #[no_mangle]
 pub extern "C" fn flute_screen_evidence(tasks: &[u8], which: u32) -> u32
-    ensures { λ r. ⌜ r ≡ evidenceIn (screenAnswers.findingEvidence (screened (now (tasks .entry)))) which ⌝ }
+    ensures { λ r. ⌜ r ≡ evidenceIn (screenAnswers.findingEvidence (screenedOf (now (tasks .entry)))) which ⌝ }
 {
-    narrow(screen::evidence_of(screen_head(tasks), which))
+    narrow(screen::evidence_of(screen::screen_head(tasks), which))
 }

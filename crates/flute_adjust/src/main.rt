@@ -1,59 +1,35 @@
 // Adjusted releases and deadlines of a plan file's task set: the file that the first argument names, or standard input. The first line is document 01's
 // number, its evidence and words; then comes a line a job: task, job, release, deadline.
-ghost use Rattle.io.specs.Counts.{Counts};
+use console::Line;
+use heads::Outcome;
+use kinds::Attributes;
+use kinds::Cycle;
 use kinds::TaskSet;
-use libc::STDOUT_FILENO;
-use reader::Outcome;
-use reader::Refusal;
 use screen::Adjusted;
 
-fn print_refusal(r: Refusal) {
-    let mut line = io::buffer();
-    let at = wording::put_refusal(&mut line, 0, r);
-    io::write_all(STDOUT_FILENO, &line[..at]);
-}
-
-fn put_cycle(out: &mut [u8], at: usize, i: u32, k: u32) -> usize
-    ensures { λ r. ⌜ Counts r (now (out .exit)) ⌝ }
-{
-    let mut to = wording::put_next(out, at, i as u64);
-    to = wording::put_next(out, to, k as u64);
-    to = wording::put_named(out, to, b" task ", i as u64);
-    to = wording::put_named(out, to, b" job ", k as u64);
-    console::put(out, to, b" lies on a cycle of links")
-}
+const JOBS: usize = Cycle::MOST_JOBS as usize;
 
 // Evidence, as far as there is some, and words.
-fn put_answer(out: &mut [u8], at: usize, a: Adjusted, jobs: usize) -> usize
-    ensures { λ r. ⌜ Counts r (now (out .exit)) ⌝ }
-{
+fn put_answer(line: Line, a: Adjusted, jobs: usize) -> Line {
     match a {
-        Adjusted::Written => {
-            let to = console::put(out, at, b" adjusted: ");
-            wording::put_counted(out, to, jobs as u64, b" job")
-        }
-        Adjusted::BadSet => console::put(out, at, b" the task set is not sound"),
-        Adjusted::WrongLength => console::put(out, at, b" a buffer has the wrong length"),
-        Adjusted::Cycle(i, k) => put_cycle(out, at, i, k),
+        Adjusted::Written => wording::put_counted(line.put(b" adjusted: "), jobs as u64, b" job"),
+        Adjusted::BadSet => line.put(b" the task set is not sound"),
+        Adjusted::WrongLength => line.put(b" a buffer has the wrong length"),
+        Adjusted::Cycle(i, k) => wording::put_on_cycle(line, i, k),
     }
 }
 
-fn print_first(a: Adjusted, jobs: usize) {
-    let mut line = io::buffer();
-    let mut at = console::put_number(&mut line, 0, screen::adjusted_number_of(a) as u64);
-    at = put_answer(&mut line, at, a, jobs);
-    at = console::put(&mut line, at, b"\n");
-    io::write_all(STDOUT_FILENO, &line[..at]);
+fn print_answer(a: Adjusted, jobs: usize) {
+    let line = Line::new().put_number(screen::adjusted_number_of(a) as u64);
+    put_answer(line, a, jobs).put(b"\n").print();
 }
 
 fn print_job(i: usize, k: usize, release: i32, deadline: i32) {
-    let mut line = io::buffer();
-    let mut at = console::put_column(&mut line, 0, i as u64, 2);
-    at = console::put_column(&mut line, at, k as u64, 5);
-    at = console::put_signed_column(&mut line, at, release, 7);
-    at = console::put_signed_column(&mut line, at, deadline, 10);
-    at = console::put(&mut line, at, b"\n");
-    io::write_all(STDOUT_FILENO, &line[..at]);
+    let line = Line::new().put_column(i as u64, 2).put_column(k as u64, 5);
+    line.put_signed_column(release, 7)
+        .put_signed_column(deadline, 10)
+        .put(b"\n")
+        .print();
 }
 
 // The n jobs of task i, whose times stand from a place on; answers the place after them.
@@ -74,18 +50,16 @@ fn print_jobs(i: usize, n: u32, start: usize, releases: &[i32], deadlines: &[i32
     x
 }
 
-fn print_tasks(n: usize, period: &[u32; 64], h: u32, releases: &[i32], deadlines: &[i32]) {
+// The jobs of the first n tasks in h ticks.
+fn print_times(attributes: &Attributes, n: usize, h: u32, releases: &[i32], deadlines: &[i32]) {
     let mut i: usize = 0;
     let mut x: usize = 0;
     while i < n {
-        if TaskSet::MOST_TASKS <= i {
+        let t = kinds::task_at(attributes, i);
+        if t.period == 0 {
             return;
         }
-        let t = period[i];
-        if t == 0 {
-            return;
-        }
-        x = print_jobs(i, h / t, x, releases, deadlines);
+        x = print_jobs(i, h / t.period, x, releases, deadlines);
         i += 1;
     }
 }
@@ -93,24 +67,22 @@ fn print_tasks(n: usize, period: &[u32; 64], h: u32, releases: &[i32], deadlines
 // Answer and times, with a buffer for the releases and one for the deadlines.
 fn print_by(set: TaskSet, h: u32, releases: &mut [i32], deadlines: &mut [i32]) {
     let a = screen::adjust(set, releases, deadlines);
-    print_first(a, releases.len());
-    let period = set.period;
+    print_answer(a, releases.len());
     match a {
-        Adjusted::Written => print_tasks(set.tasks, &period, h, releases, deadlines),
+        Adjusted::Written => print_times(&set.attributes, set.tasks, h, releases, deadlines),
         _ => {}
     }
 }
 
 fn print_adjusted(set: TaskSet) {
-    let period = set.period;
-    let cycle = kinds::cycle_of(&period, set.tasks);
-    let n = cycle.jobs as usize;
-    if 2048 < n {
+    let f = kinds::counts_of(set);
+    let n = f.jobs as usize;
+    if JOBS < n {
         return;
     }
-    let mut releases = [0i32; 2048];
-    let mut deadlines = [0i32; 2048];
-    print_by(set, cycle.ticks, &mut releases[..n], &mut deadlines[..n]);
+    let mut releases = [0i32; JOBS];
+    let mut deadlines = [0i32; JOBS];
+    print_by(set, f.ticks, &mut releases[..n], &mut deadlines[..n]);
 }
 
 fn main() {
@@ -124,7 +96,7 @@ fn main() {
     let outcome = loaded.outcome;
     let set = loaded.set;
     match outcome {
-        Outcome::Refused(r) => print_refusal(r),
+        Outcome::Refused(r) => wording::print_refusal(r),
         Outcome::At(_) => print_adjusted(set),
     }
 }

@@ -4,15 +4,13 @@
 ghost use mathlib.Core.Path.{_≡_};
 ghost use Prim.Native.Nat.{_+_, _<_, _≤_};
 ghost use lib.ListN.{length};
-ghost use Rattle.io.specs.Counts.{Counts};
 ghost use Rattle.dispatcher.specs.Bytes.{number};
+use console::Line;
 use dispatcher::Answer;
 use dispatcher::State;
+use heads::Outcome;
 use judge::Verdict;
 use kinds::TaskSet;
-use libc::STDOUT_FILENO;
-use reader::Outcome;
-use reader::Refusal;
 
 // How many bytes a step's report has.
 const REPORT: usize = 8;
@@ -20,7 +18,7 @@ const REPORT: usize = 8;
 // How many bytes a step shows at most.
 const ROW: usize = TaskSet::MOST_PROCESSORS as usize;
 
-fn wide(x: u8) -> u64
+fn as_number(x: u8) -> u64
     ensures { λ r. ⌜ (r ≡ x) × (r < 256) ⌝ }
 {
     x as u64
@@ -34,7 +32,7 @@ fn report_at(bytes: &[u8], at: usize) -> u64
     let mut x: u64 = 0;
     let mut k = REPORT;
     while 0 < k {
-        x = x * 256 + wide(bytes[at + (k - 1)]);
+        x = x * 256 + as_number(bytes[at + (k - 1)]);
         k -= 1;
     }
     x
@@ -48,62 +46,31 @@ fn report_of(reports: &[u8], k: usize) -> u64 {
     report_at(reports, k * REPORT)
 }
 
-fn print_refusal(r: Refusal) {
-    let mut line = io::buffer();
-    let at = wording::put_refusal(&mut line, 0, r);
-    io::write_all(STDOUT_FILENO, &line[..at]);
-}
-
-fn print_verdict(set: TaskSet, v: Verdict) {
-    let running = set.running;
-    let mut line = io::buffer();
-    let at = verdicts::put_verdict(&mut line, 0, v, verdicts::asked_of(v, &running));
-    io::write_all(STDOUT_FILENO, &line[..at]);
-}
-
-// A blank and a number for each byte of a row.
-fn put_row(out: &mut [u8], at: usize, row: &[u8]) -> usize
-    ensures { λ r. ⌜ Counts r (now (out .exit)) ⌝ }
-{
-    let mut to = console::put(out, at, b"");
+// A step's number, and a blank and a number for each byte of its row.
+fn print_row(k: usize, row: &[u8]) {
+    let mut line = Line::new().put_number(k as u64);
     let mut q: usize = 0;
     while q < row.len() {
-        to = wording::put_next(out, to, wide(row[q]));
+        line = line.put_named(b" ", as_number(row[q]));
         q += 1;
     }
-    to
-}
-
-fn print_row(k: usize, row: &[u8]) {
-    let mut line = io::buffer();
-    let mut at = console::put_number(&mut line, 0, k as u64);
-    at = put_row(&mut line, at, row);
-    at = console::put(&mut line, at, b"\n");
-    io::write_all(STDOUT_FILENO, &line[..at]);
+    line.put(b"\n").print();
 }
 
 // The line for a step that is refused; three of its refusals are the judge's too.
-fn put_refused(out: &mut [u8], at: usize, a: Answer) -> usize
-    ensures { λ r. ⌜ Counts r (now (out .exit)) ⌝ }
-{
-    match a {
-        Answer::Shown => console::put(out, at, b""),
-        Answer::BadSet => verdicts::put_verdict(out, at, Verdict::BadSet, 0),
-        Answer::WrongLength => verdicts::put_verdict(out, at, Verdict::WrongLength, 0),
-        Answer::BadState => console::put(out, at, b"30 the dispatcher's state is not possible\n"),
-        Answer::BadReport => console::put(
-            out,
-            at,
-            b"31 a report has a bit at or above the task count\n",
-        ),
-        Answer::BadSlot(e) => verdicts::put_verdict(out, at, Verdict::BadSlot(e), 0),
-    }
-}
-
 fn print_refused(a: Answer) {
-    let mut line = io::buffer();
-    let at = put_refused(&mut line, 0, a);
-    io::write_all(STDOUT_FILENO, &line[..at]);
+    match a {
+        Answer::Shown => {}
+        Answer::BadSet => verdicts::print_verdict(Verdict::BadSet, 0),
+        Answer::WrongLength => verdicts::print_verdict(Verdict::WrongLength, 0),
+        Answer::BadState => Line::new()
+            .put(b"30 the dispatcher's state is not possible\n")
+            .print(),
+        Answer::BadReport => Line::new()
+            .put(b"31 a report has a bit at or above the task count\n")
+            .print(),
+        Answer::BadSlot(e) => verdicts::print_verdict(Verdict::BadSlot(e), 0),
+    }
 }
 
 // Prints step k; answers whether the play goes on.
@@ -143,11 +110,11 @@ fn play_steps(
     }
 }
 
-fn play(set: TaskSet, plan: &[u8], state: State, reports: &[u8], steps: usize) {
+fn play_from(set: TaskSet, plan: &[u8], state: State, reports: &[u8], steps: usize) {
     let mut row = [0u8; ROW];
     let m = set.processors as usize;
     if m <= ROW {
-        print_verdict(set, Verdict::Accepted);
+        verdicts::print_verdict(Verdict::Accepted, 0);
         play_steps(set, plan, state, reports, steps, &mut row[..m]);
     }
 }
@@ -157,9 +124,8 @@ fn play(set: TaskSet, plan: &[u8], state: State, reports: &[u8], steps: usize) {
 fn play_accepted(set: TaskSet, plan: &[u8], state: State) {
     let mut reports = io::large_buffer();
     if os::arg_count() < 3 {
-        let period = set.period;
-        let cycle = kinds::cycle_of(&period, set.tasks);
-        play(set, plan, state, b"", cycle.ticks as usize);
+        let f = kinds::counts_of(set);
+        play_from(set, plan, state, b"", f.ticks as usize);
         return;
     }
     let input = console::load_named(2, &mut reports);
@@ -167,16 +133,16 @@ fn play_accepted(set: TaskSet, plan: &[u8], state: State) {
         return;
     }
     let n = input.length;
-    play(set, plan, state, &reports[..n], n / REPORT);
+    play_from(set, plan, state, &reports[..n], n / REPORT);
 }
 
-fn start(set: TaskSet, plan: &[u8]) {
+fn judge_and_play(set: TaskSet, plan: &[u8]) {
     let started = State::new().start(set, plan);
     let verdict = started.verdict;
     let state = started.state;
     match verdict {
         Verdict::Accepted => play_accepted(set, plan, state),
-        _ => print_verdict(set, verdict),
+        _ => verdicts::print_verdict(verdict, verdicts::asked_of(verdict, &set.attributes)),
     }
 }
 
@@ -191,10 +157,10 @@ fn main() {
     let outcome = loaded.outcome;
     let set = loaded.set;
     match outcome {
-        Outcome::Refused(r) => print_refusal(r),
+        Outcome::Refused(r) => wording::print_refusal(r),
         Outcome::At(place) => {
             if place <= n {
-                start(set, &file[place..n]);
+                judge_and_play(set, &file[place..n]);
             }
         }
     }

@@ -1,42 +1,31 @@
 // Screens the task set of a plan file: the one that the first argument names, or standard input. Prints document 01's number, its evidence and words.
-ghost use Prim.Native.Nat.{_<_};
-ghost use Rattle.io.specs.Counts.{Counts};
+use console::Line;
+use heads::Outcome;
+use kinds::Attributes;
+use kinds::Cycle;
 use kinds::TaskSet;
-use libc::STDOUT_FILENO;
-use reader::Outcome;
-use reader::Refusal;
 use screen::Finding;
 
-fn put_job(out: &mut [u8], at: usize, i: u32, k: u32, words: &[u8]) -> usize
-    ensures { λ r. ⌜ Counts r (now (out .exit)) ⌝ }
-{
-    let mut to = wording::put_named(out, at, b" task ", i as u64);
-    to = wording::put_named(out, to, b" job ", k as u64);
-    console::put(out, to, words)
-}
+const JOBS: usize = Cycle::MOST_JOBS as usize;
 
-fn wide(x: u32) -> usize
-    ensures { λ r. ⌜ r < 4294967296 ⌝ }
-{
-    x as usize
+// How many jobs a task of period t has in h ticks; 0 where t is no period.
+fn jobs_within(t: u32, h: u32) -> u32 {
+    if t == 0 {
+        return 0;
+    }
+    h / t
 }
 
 // The place of job k of task i among a cycle's jobs, by task, then job.
-fn place_of(period: &[u32; 64], h: u32, i: usize, k: u32) -> usize {
+fn place_of(attributes: &Attributes, h: u32, i: usize, k: u32) -> usize {
     let mut x = k as usize;
     let mut j: usize = 0;
     while j < i {
-        if TaskSet::MOST_TASKS <= j {
+        if JOBS < x {
             return x;
         }
-        let t = period[j];
-        if t == 0 {
-            return x;
-        }
-        if 4294967296 < x {
-            return x;
-        }
-        x += wide(h / t);
+        let t = kinds::task_at(attributes, j);
+        x += jobs_within(t.period, h) as usize;
         j += 1;
     }
     x
@@ -51,105 +40,62 @@ fn time_at(times: &[i32], x: usize) -> i32 {
 
 // The adjusted times of the job at place x, with a buffer for the releases and one for the deadlines.
 fn put_times_by(
-    out: &mut [u8],
-    at: usize,
+    line: Line,
     set: TaskSet,
     x: usize,
     releases: &mut [i32],
     deadlines: &mut [i32],
-) -> usize
-    ensures { λ r. ⌜ Counts r (now (out .exit)) ⌝ }
-{
+) -> Line {
     screen::adjust(set, releases, deadlines);
-    let mut to = console::put(out, at, b" between its adjusted release ");
-    to = console::put_signed(out, to, time_at(releases, x));
-    to = console::put(out, to, b" and deadline ");
-    console::put_signed(out, to, time_at(deadlines, x))
+    let told = line.put(b" between its adjusted release ")
+        .put_signed(time_at(releases, x));
+    told.put(b" and deadline ")
+        .put_signed(time_at(deadlines, x))
 }
 
-fn put_times(out: &mut [u8], at: usize, set: TaskSet, i: u32, k: u32) -> usize
-    ensures { λ r. ⌜ Counts r (now (out .exit)) ⌝ }
-{
-    let period = set.period;
-    let cycle = kinds::cycle_of(&period, set.tasks);
-    let n = cycle.jobs as usize;
-    if 2048 < n {
-        return console::put(out, at, b"");
+fn put_times(line: Line, set: TaskSet, i: u32, k: u32) -> Line {
+    let f = kinds::counts_of(set);
+    let n = f.jobs as usize;
+    if JOBS < n {
+        return line;
     }
-    let x = place_of(&period, cycle.ticks, i as usize, k);
-    let mut releases = [0i32; 2048];
-    let mut deadlines = [0i32; 2048];
-    put_times_by(out, at, set, x, &mut releases[..n], &mut deadlines[..n])
+    let x = place_of(&set.attributes, f.ticks, i as usize, k);
+    let mut releases = [0i32; JOBS];
+    let mut deadlines = [0i32; JOBS];
+    put_times_by(line, set, x, &mut releases[..n], &mut deadlines[..n])
 }
 
-// The running time that a task asks for.
-fn running_of(running: &[u32; 64], i: u32) -> u32 {
-    let k = i as usize;
-    if TaskSet::MOST_TASKS <= k {
-        return 0;
-    }
-    running[k]
+fn put_tight(line: Line, set: TaskSet, i: u32, k: u32) -> Line {
+    let t = kinds::task_at(&set.attributes, i as usize);
+    let told = wording::put_job(wording::put_two(line, i, k), i, k, b" cannot run ");
+    put_times(
+        wording::put_counted(told, t.running as u64, b" tick"),
+        set,
+        i,
+        k,
+    )
 }
 
-fn put_tight(out: &mut [u8], at: usize, set: TaskSet, i: u32, k: u32) -> usize
-    ensures { λ r. ⌜ Counts r (now (out .exit)) ⌝ }
-{
-    let running = set.running;
-    let mut to = put_job(out, at, i, k, b" cannot run ");
-    to = wording::put_counted(out, to, running_of(&running, i) as u64, b" tick");
-    put_times(out, to, set, i, k)
+fn put_overload(line: Line, a: u32, b: u32) -> Line {
+    let told = wording::put_two(line, a, b).put_named(b" the jobs ask for ", a as u64);
+    told.put_named(b" ticks, the processors have ", b as u64)
 }
 
-// What a finding means.
-fn put_words(out: &mut [u8], at: usize, set: TaskSet, f: Finding) -> usize
-    ensures { λ r. ⌜ Counts r (now (out .exit)) ⌝ }
-{
+// A finding's evidence, as far as there is some, and what it means.
+fn put_finding(line: Line, set: TaskSet, f: Finding) -> Line {
     match f {
-        Finding::Nothing => console::put(out, at, b" no finding"),
-        Finding::BadSet => console::put(out, at, b" the task set is not sound"),
-        Finding::Cycle(i, k) => put_job(out, at, i, k, b" lies on a cycle of links"),
-        Finding::Overload(a, b) => {
-            let to = wording::put_named(out, at, b" the jobs ask for ", a as u64);
-            wording::put_named(out, to, b" ticks, the processors have ", b as u64)
-        }
-        Finding::TooTight(i, k) => put_tight(out, at, set, i, k),
-    }
-}
-
-fn put_two(out: &mut [u8], at: usize, a: u32, b: u32) -> usize
-    ensures { λ r. ⌜ Counts r (now (out .exit)) ⌝ }
-{
-    let to = wording::put_next(out, at, a as u64);
-    wording::put_next(out, to, b as u64)
-}
-
-// The finding's evidence, as far as there is some.
-fn put_evidence(out: &mut [u8], at: usize, f: Finding) -> usize
-    ensures { λ r. ⌜ Counts r (now (out .exit)) ⌝ }
-{
-    match f {
-        Finding::Nothing => console::put(out, at, b""),
-        Finding::BadSet => console::put(out, at, b""),
-        Finding::Cycle(i, k) => put_two(out, at, i, k),
-        Finding::Overload(a, b) => put_two(out, at, a, b),
-        Finding::TooTight(i, k) => put_two(out, at, i, k),
+        Finding::Nothing => line.put(b" no finding"),
+        Finding::BadSet => line.put(b" the task set is not sound"),
+        Finding::Cycle(i, k) => wording::put_on_cycle(line, i, k),
+        Finding::Overload(a, b) => put_overload(line, a, b),
+        Finding::TooTight(i, k) => put_tight(line, set, i, k),
     }
 }
 
 fn print_finding(set: TaskSet) {
     let f = screen::screen(set);
-    let mut line = io::buffer();
-    let mut at = console::put_number(&mut line, 0, screen::number_of(f) as u64);
-    at = put_evidence(&mut line, at, f);
-    at = put_words(&mut line, at, set, f);
-    at = console::put(&mut line, at, b"\n");
-    io::write_all(STDOUT_FILENO, &line[..at]);
-}
-
-fn print_refusal(r: Refusal) {
-    let mut line = io::buffer();
-    let at = wording::put_refusal(&mut line, 0, r);
-    io::write_all(STDOUT_FILENO, &line[..at]);
+    let line = Line::new().put_number(screen::number_of(f) as u64);
+    put_finding(line, set, f).put(b"\n").print();
 }
 
 fn main() {
@@ -163,7 +109,7 @@ fn main() {
     let outcome = loaded.outcome;
     let set = loaded.set;
     match outcome {
-        Outcome::Refused(r) => print_refusal(r),
+        Outcome::Refused(r) => wording::print_refusal(r),
         Outcome::At(_) => print_finding(set),
     }
 }

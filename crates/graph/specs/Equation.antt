@@ -7,7 +7,7 @@ use lib.Dec.{eqb}
 use lib.IntN.{ℤ, pos, subℕ, _-ℤ_}
 use borrow.Author.Tests.{eqb-true}
 use Rattle.vocabulary.specs.Test.{pick}
-use Rattle.graph.specs.Graph.{Graph, Inside}
+use Rattle.graph.specs.Graph.{Graph, LinksInside}
 use Rattle.graph.specs.Reach.{Free, rank, rank-up, rank-low, free-by}
 use Rattle.graph.specs.Longest.{most, rounds}
 use Rattle.graph.specs.Settle.{most-over, rounds-solve}
@@ -15,7 +15,7 @@ use Rattle.graph.specs.Soonest.{minZ, fewest, due, soonest}
 use Rattle.graph.specs.Sub.{flip, soonest-sub}
 
 -- links turned round make no cycle either
-pub flip-free : (g : Graph) → Inside g → Free g → Free (flip g)
+pub flip-free : (g : Graph) → LinksInside g → Free g → Free (flip g)
 flip-free g i free = free-by (flip g) (λ x. g .n - rank g x) (λ k l. omega (arith, rank-up g i free k l, rank-low g (g .to k)))
 
 fewest-same : (p : ℕ → Bool) (f h : ℕ → ℤ) (b : ℤ) (n : ℕ) → ((k : ℕ) → k < n → p k ≡ true → f k ≡ h k) → fewest p f b n ≡ fewest p h b n
@@ -23,7 +23,8 @@ unfolding fewest
 fewest-same p f h b zero e = refl
 fewest-same p f h b (suc n) e = go (p n) refl (fewest-same p f h b n (λ k l. e k (omega arith)))
   where
-    go : (q : Bool) → p n ≡ q → fewest p f b n ≡ fewest p h b n → pick q (minZ (fewest p f b n) (f n)) (fewest p f b n) ≡ pick q (minZ (fewest p h b n) (h n)) (fewest p h b n)
+    go : (q : Bool) → p n ≡ q → fewest p f b n ≡ fewest p h b n
+        → pick q (minZ (fewest p f b n) (f n)) (fewest p f b n) ≡ pick q (minZ (fewest p h b n) (h n)) (fewest p h b n)
     go true a r = ap₂ minZ r (e n (omega arith) a)
     go false a r = r
 
@@ -33,7 +34,7 @@ due-same g d c u v x h =
     fewest-same (λ k. eqb (g .from k) x) (λ k. u (g .to k) -ℤ pos (c (g .to k))) (λ k. v (g .to k) -ℤ pos (c (g .to k))) (pos (d x)) (g .e)
     (λ k l e. ap (λ (a : ℤ). a -ℤ pos (c (g .to k))) (h k l (eqb-true (g .from k) x e)))
 
-module _ (g : Graph) (d c : ℕ → ℕ) (i : Inside g) (free : Free g) where
+module _ (g : Graph) (d c : ℕ → ℕ) (i : LinksInside g) (free : Free g) where
   -- ==== n rounds solve the equations
   pub soonest-solves : (x : ℕ) → x < g .n → soonest g d c (g .n) x ≡ due g d c (soonest g d c (g .n)) x
   unfolding soonest rounds
@@ -44,7 +45,8 @@ module _ (g : Graph) (d c : ℕ → ℕ) (i : Inside g) (free : Free g) where
       ∙ ap (subℕ z) (rounds-solve (flip g) (λ y. z - d y) c (record { starts = i .ends; ends = i .starts }) (flip-free g i free) x l)
       ∙ sym (soonest-sub g d c z i hz (suc (g .n)) x l)
 
-  same : (u v : ℕ → ℤ) → ((x : ℕ) → x < g .n → u x ≡ due g d c u x) → ((x : ℕ) → x < g .n → v x ≡ due g d c v x) → (s x : ℕ) → x < g .n → g .n < rank g x + s → u x ≡ v x
+  same : (u v : ℕ → ℤ) → ((x : ℕ) → x < g .n → u x ≡ due g d c u x) → ((x : ℕ) → x < g .n → v x ≡ due g d c v x) → (s x : ℕ) → x < g .n
+      → g .n < rank g x + s → u x ≡ v x
   same u v hu hv zero x l r = absurd (omega (arith, rank-low g x))
   same u v hu hv (suc s) x l r =
       hu x l

@@ -18,7 +18,7 @@ pub record Graph : Type 0 where
 abbrev pub graphOf : List ℕ → List ℕ → ℕ → Graph
 graphOf f t n = record { n = n; e = length f; from = λ k. getD f k 0; to = λ k. getD t k 0 }
 
-pub record Inside (g : Graph) : Type 0 where
+pub record LinksInside (g : Graph) : Type 0 where
   pub starts : (k : ℕ) → k < g .e → g .from k < g .n
   pub ends : (k : ℕ) → k < g .e → g .to k < g .n
 

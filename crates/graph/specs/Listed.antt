@@ -10,7 +10,7 @@ use lib.ListN.{length}
 use lib.Signed.{ltZ}
 use borrow.Author.Tests.{lt-ltb, ltb-true}
 use Rattle.vocabulary.specs.Test.{lt-or-le, same-test}
-use Rattle.graph.specs.Graph.{Graph, Inside, graphOf}
+use Rattle.graph.specs.Graph.{Graph, LinksInside, graphOf}
 use Rattle.graph.specs.Reach.{Free}
 use Rattle.graph.specs.Longest.{entry, rounds}
 use Rattle.graph.specs.Settle.{entry-base, entry-link, entry-under}
@@ -18,11 +18,11 @@ use Rattle.graph.specs.Soonest.{soonest}
 use Rattle.graph.specs.Sub.{flip, sub-ge, sub-lt, soonest-sub}
 use Rattle.graph.specs.Equation.{flip-free}
 use Rattle.graph.specs.Pass.{limit, at, Lined, Settled, settled-free}
-use Rattle.graph.specs.Cycle.{Linked}
-use Rattle.graph.specs.Ranked.{turned, linked-back}
+use Rattle.graph.specs.Cycle.{Between, between-inside, between-back, turned}
 
 -- own numbers and weights that are no greater on the jobs
-rounds-le : (g : Graph) → Inside g → (b b′ w w′ : ℕ → ℕ) → ((x : ℕ) → x < g .n → b x ≤ b′ x) → ((x : ℕ) → x < g .n → w x ≤ w′ x) → (s x : ℕ) → x < g .n → rounds g b w s x ≤ rounds g b′ w′ s x
+rounds-le : (g : Graph) → LinksInside g → (b b′ w w′ : ℕ → ℕ) → ((x : ℕ) → x < g .n → b x ≤ b′ x) → ((x : ℕ) → x < g .n → w x ≤ w′ x) → (s x : ℕ)
+    → x < g .n → rounds g b w s x ≤ rounds g b′ w′ s x
 unfolding rounds
 rounds-le g i b b′ w w′ hb hw zero x l = hb x l
 rounds-le g i b b′ w w′ hb hw (suc s) x l =
@@ -30,9 +30,17 @@ rounds-le g i b b′ w w′ hb hw (suc s) x l =
     (omega (arith, hb x l, entry-base g b′ w′ (rounds g b′ w′ s) x))
     (λ k lk e.
     let y : ℕ = g .from k in
-    omega (arith, entry-link g b′ w′ (rounds g b′ w′ s) k lk, ap (entry g b′ w′ (rounds g b′ w′ s)) e, rounds-le g i b b′ w w′ hb hw s y (i .starts k lk), hw y (i .starts k lk)))
+    omega (
+      arith,
+      entry-link g b′ w′ (rounds g b′ w′ s) k lk,
+      ap (entry g b′ w′ (rounds g b′ w′ s)) e,
+      rounds-le g i b b′ w w′ hb hw s y
+          (i .starts k lk),
+      hw y (i .starts k lk),
+    ))
 
-rounds-alike : (g : Graph) → Inside g → (b b′ w w′ : ℕ → ℕ) → ((x : ℕ) → x < g .n → b x ≡ b′ x) → ((x : ℕ) → x < g .n → w x ≡ w′ x) → (s x : ℕ) → x < g .n → rounds g b w s x ≡ rounds g b′ w′ s x
+rounds-alike : (g : Graph) → LinksInside g → (b b′ w w′ : ℕ → ℕ) → ((x : ℕ) → x < g .n → b x ≡ b′ x) → ((x : ℕ) → x < g .n → w x ≡ w′ x) → (s x : ℕ)
+    → x < g .n → rounds g b w s x ≡ rounds g b′ w′ s x
 rounds-alike g i b b′ w w′ hb hw s x l =
     omega (
       arith,
@@ -51,10 +59,7 @@ pub record Weighted (w v : List ℕ) (n : ℕ) (b c : ℕ → ℕ) (B W : ℕ) :
   pub small : B + n * W ≤ limit
   pub heavy : W ≤ limit
 
-pub linked-inside : (f t : List ℕ) (n : ℕ) → Linked f t n → Inside (graphOf f t n)
-linked-inside f t n l = record { starts = l .starts; ends = l .ends }
-
-module _ (f t w v : List ℕ) (n : ℕ) (b c : ℕ → ℕ) (B W : ℕ) (l : Linked f t n) (h : Weighted w v n b c B W) where
+module _ (f t w v : List ℕ) (n : ℕ) (b c : ℕ → ℕ) (B W : ℕ) (l : Between f t n) (h : Weighted w v n b c B W) where
   pub weighted-lined : Lined f t w v
   weighted-lined =
       record {
@@ -77,16 +82,17 @@ module _ (f t w v : List ℕ) (n : ℕ) (b c : ℕ → ℕ) (B W : ℕ) (l : Lin
       (omega (arith, ap (λ (m : ℕ). m * W) e, h .small))
       x (omega arith)
       ∙ ap (λ (m : ℕ). rounds (graphOf f t m) (at v) (at w) m x) e
-      ∙ rounds-alike (graphOf f t n) (linked-inside f t n l) (at v) b (at w) c (h .own) (h .weight) n x lx
+      ∙ rounds-alike (graphOf f t n) (between-inside f t n l) (at v) b (at w) c (h .own) (h .weight) n x lx
 
 -- ==== along the turned links: from z less the own deadlines, z less the adjusted ones
-pub settled-soonest : (f t w v u : List ℕ) (n z W : ℕ) (d c : ℕ → ℕ) → Linked f t n → Weighted w v n (λ x. z - d x) c z W → Settled t f w v u → Free (graphOf f t n) → ((x : ℕ) → x < n → d x ≤ z) → (x : ℕ) → x < n → subℕ z (at u x) ≡ soonest (graphOf f t n) d c n x
+pub settled-soonest : (f t w v u : List ℕ) (n z W : ℕ) (d c : ℕ → ℕ) → Between f t n → Weighted w v n (λ x. z - d x) c z W → Settled t f w v u
+    → Free (graphOf f t n) → ((x : ℕ) → x < n → d x ≤ z) → (x : ℕ) → x < n → subℕ z (at u x) ≡ soonest (graphOf f t n) d c n x
 settled-soonest f t w v u n z W d c l h p free low x lx =
     let g : Graph = graphOf f t n in
-    let i : Inside g = linked-inside f t n l in
+    let i : LinksInside g = between-inside f t n l in
     let e : graphOf t f n ≡ flip g = turned f t n (l .long) in
     ap (subℕ z)
-    (settled-rounds t f w v n (λ y. z - d y) c z W (linked-back f t n l) h u p (subst (λ (k : Graph). Free k) (sym e) (flip-free g i free)) x lx
+    (settled-rounds t f w v n (λ y. z - d y) c z W (between-back f t n l) h u p (subst (λ (k : Graph). Free k) (sym e) (flip-free g i free)) x lx
     ∙ ap (λ (k : Graph). rounds k (λ y. z - d y) c n x) e)
     ∙ sym (soonest-sub g d c z i low n x lx)
 

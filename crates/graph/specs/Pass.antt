@@ -10,7 +10,7 @@ use lib.ListN.{length, getD, set, length-set}
 use lib.Seq.{getD-set-same, getD-set-other}
 use borrow.Author.Count.{below-more}
 use Rattle.vocabulary.specs.Test.{clash, lt-or-le, eq-or-ne}
-use Rattle.graph.specs.Graph.{Graph, Inside, graphOf}
+use Rattle.graph.specs.Graph.{Graph, LinksInside, graphOf}
 use Rattle.graph.specs.Reach.{Free}
 use Rattle.graph.specs.Longest.{entry, rounds}
 use Rattle.graph.specs.Settle.{Over, entry-under, rounds-bound, solves-over, rounds-solve}
@@ -31,7 +31,7 @@ pub record Lined (f t w v : List ℕ) : Type 0 where
   pub light : (x : ℕ) → x < length v → at w x ≤ limit
   pub low : (x : ℕ) → x < length v → at v x ≤ limit
 
-pub lined-inside : (f t w v : List ℕ) → Lined f t w v → Inside (graphOf f t (length v))
+pub lined-inside : (f t w v : List ℕ) → Lined f t w v → LinksInside (graphOf f t (length v))
 lined-inside f t w v l = record { starts = l .starts; ends = l .ends }
 
 -- ---- one link
@@ -65,29 +65,47 @@ not-raised w a b v u e l =
     record { long = refl; grow = λ x. omega arith; got = omega arith; low = λ x h. h; under = λ s ha hs x h. h; still = λ p. refl }
 
 -- ---- all links, up to link k
-pub record Passing (f t w v v′ : List ℕ) (k : ℕ) (r : Bool) : Type 0 where
+pub record PassingLinks (f t w v v′ : List ℕ) (k : ℕ) (r : Bool) : Type 0 where
   pub within : k ≤ length f
   pub long : length v′ ≡ length v
   pub low : (x : ℕ) → x < length v → at v′ x ≤ limit
   pub grow : (x : ℕ) → at v x ≤ at v′ x
   pub got : (j : ℕ) → j < k → min (at v (at f j) + at w (at f j)) limit ≤ at v′ (at t j)
-  pub under : (s : ℕ → ℕ) → ((j : ℕ) → j < length f → s (at f j) + at w (at f j) ≤ s (at t j)) → ((x : ℕ) → x < length v → at v x ≤ s x) → (x : ℕ) → x < length v → at v′ x ≤ s x
+  pub under : (s : ℕ → ℕ) → ((j : ℕ) → j < length f → s (at f j) + at w (at f j) ≤ s (at t j)) → ((x : ℕ) → x < length v → at v x ≤ s x) → (x : ℕ)
+      → x < length v → at v′ x ≤ s x
   pub still : r ≡ false → v′ ≡ v
 
 abbrev pub Passed : List ℕ → List ℕ → List ℕ → List ℕ → List ℕ → Bool → Type 0
-Passed f t w v v′ r = Passing f t w v v′ (length f) r
+Passed f t w v v′ r = PassingLinks f t w v v′ (length f) r
 
-pub pass-from : (f t w v : List ℕ) → Lined f t w v → Passing f t w v v 0 false
+pub pass-from : (f t w v : List ℕ) → Lined f t w v → PassingLinks f t w v v 0 false
 pass-from f t w v l =
-    record { within = omega arith; long = refl; low = l .low; grow = λ x. omega arith; got = λ j h. absurd (omega arith); under = λ s hs h. h; still = λ p. refl }
+    record {
+      within = omega arith;
+      long = refl;
+      low = l .low;
+      grow = λ x. omega arith;
+      got = λ j h. absurd
+          (omega arith);
+      under = λ s hs h. h;
+      still = λ p. refl;
+    }
 
 -- what `raise` asks
-pub pass-asks : (f t w v u : List ℕ) (k : ℕ) (r : Bool) → Lined f t w v → Passing f t w v u k r → k < length f → (at f k < length u) × (at t k < length u) × (length w ≡ length u) × (at u (at f k) ≤ limit) × (at w (at f k) ≤ limit)
-pass-asks f t w v u k r l p lk =
-    (omega (arith, l .starts k lk, p .long), omega (arith, l .ends k lk, p .long), l .weights ∙ sym (p .long), p .low (at f k) (l .starts k lk), l .light (at f k) (l .starts k lk))
+pub pass-asks : (f t w v u : List ℕ) (k : ℕ) (r : Bool) → Lined f t w v → PassingLinks f t w v u k r → k < length f
+    → (at f k < length u) × (at t k < length u) × (length w ≡ length u) × (at u (at f k) ≤ limit) × (at w (at f k) ≤ limit)
+pass-asks f t w v u k r l p lk = (
+  omega (arith, l .starts k lk, p .long),
+  omega (arith, l .ends k lk, p .long),
+  l .weights ∙ sym (p .long),
+  p .low (at f k)
+      (l .starts k lk),
+  l .light (at f k) (l .starts k lk),
+)
 
 -- a turn: r′ is whether anything has changed by now
-pub pass-on : (f t w v u u′ : List ℕ) (k : ℕ) (r c r′ : Bool) → Lined f t w v → Passing f t w v u k r → k < length f → Raised w (at f k) (at t k) u u′ c → (r′ ≡ false → (r ≡ false) × (c ≡ false)) → Passing f t w v u′ (k + 1) r′
+pub pass-on : (f t w v u u′ : List ℕ) (k : ℕ) (r c r′ : Bool) → Lined f t w v → PassingLinks f t w v u k r → k < length f
+    → Raised w (at f k) (at t k) u u′ c → (r′ ≡ false → (r ≡ false) × (c ≡ false)) → PassingLinks f t w v u′ (k + 1) r′
 pass-on f t w v u u′ k r c r′ l p lk q h =
     record {
       within = omega arith;
@@ -101,7 +119,7 @@ pass-on f t w v u u′ k r c r′ l p lk q h =
       still = λ e. let z = h e in q .still (z .1) ∙ p .still (z .0);
     }
 
-pub pass-end : (f t w v u : List ℕ) (k : ℕ) (r : Bool) → Passing f t w v u k r → length f ≤ k → Passed f t w v u r
+pub pass-end : (f t w v u : List ℕ) (k : ℕ) (r : Bool) → PassingLinks f t w v u k r → length f ≤ k → Passed f t w v u r
 pass-end f t w v u k r p l =
     record { within = omega arith; long = p .long; low = p .low; grow = p .grow; got = λ j h. p .got j (omega arith); under = p .under; still = p .still }
 
@@ -135,7 +153,9 @@ still-lined f t w v u s l p =
     }
 
 -- one round of the equations is passed by a pass
-step : (f t w v u u′ : List ℕ) (y : ℕ → ℕ) → Lined f t w v → ((x : ℕ) → x < length v → min (y x) limit ≤ at u x) → ((x : ℕ) → at v x ≤ at u′ x) → ((j : ℕ) → j < length f → min (at u (at f j) + at w (at f j)) limit ≤ at u′ (at t j)) → (x : ℕ) → x < length v → min (entry (graphOf f t (length v)) (at v) (at w) y x) limit ≤ at u′ x
+step : (f t w v u u′ : List ℕ) (y : ℕ → ℕ) → Lined f t w v → ((x : ℕ) → x < length v → min (y x) limit ≤ at u x) → ((x : ℕ) → at v x ≤ at u′ x)
+    → ((j : ℕ) → j < length f → min (at u (at f j) + at w (at f j)) limit ≤ at u′ (at t j)) → (x : ℕ) → x < length v
+    → min (entry (graphOf f t (length v)) (at v) (at w) y x) limit ≤ at u′ x
 step f t w v u u′ y l hy grow got x lx = go (lt-or-le (at u′ x) limit)
   where
     go : (at u′ x < limit) ⊎ (limit ≤ at u′ x) → min (entry (graphOf f t (length v)) (at v) (at w) y x) limit ≤ at u′ x
@@ -178,13 +198,16 @@ pub settle-end : (f t w v u : List ℕ) (k : ℕ) → Settling f t w v u k → l
 settle-end f t w v u k p l m = let e : k ≡ length v = omega (arith, p .long) in rw e at p
 
 -- ==== without a cycle the numbers are the solution
-pub settled-free : (f t w v u : List ℕ) (B W : ℕ) → Lined f t w v → Settled f t w v u → Free (graphOf f t (length v)) → ((x : ℕ) → x < length v → at v x ≤ B) → ((x : ℕ) → x < length v → at w x ≤ W) → B + length v * W ≤ limit → (x : ℕ) → x < length v → at u x ≡ rounds (graphOf f t (length v)) (at v) (at w) (length v) x
+pub settled-free : (f t w v u : List ℕ) (B W : ℕ) → Lined f t w v → Settled f t w v u → Free (graphOf f t (length v))
+    → ((x : ℕ) → x < length v → at v x ≤ B) → ((x : ℕ) → x < length v → at w x ≤ W) → B + length v * W ≤ limit → (x : ℕ) → x < length v
+    → at u x ≡ rounds (graphOf f t (length v)) (at v) (at w) (length v) x
 settled-free f t w v u B W l p free hb hw small x h =
     let g : Graph = graphOf f t (length v) in
-    let i : Inside g = lined-inside f t w v l in
+    let i : LinksInside g = lined-inside f t w v l in
     omega (
       arith,
       p .reached x h,
       rounds-bound g (at v) (at w) i B W hb hw (length v) x h,
-      p .under (rounds g (at v) (at w) (length v)) (solves-over g (at v) (at w) i (rounds g (at v) (at w) (length v)) (rounds-solve g (at v) (at w) i free)) x h,
+      p .under (rounds g (at v) (at w) (length v))
+          (solves-over g (at v) (at w) i (rounds g (at v) (at w) (length v)) (rounds-solve g (at v) (at w) i free)) x h,
     )

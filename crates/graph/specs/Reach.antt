@@ -10,7 +10,7 @@ use borrow.Author.Tests.{eqb-true, eq-eqb, not-true}
 use Rattle.vocabulary.specs.Test.{clash, fails, both, decide, bit, bit-mono}
 use Rattle.vocabulary.specs.Count.{count, count-le, count-mono}
 use Rattle.vocabulary.specs.Least.{least, some, some-yes, some-not, some-at}
-use Rattle.graph.specs.Graph.{Graph, Inside, Way, one, more, reach, loops}
+use Rattle.graph.specs.Graph.{Graph, LinksInside, Way, one, more, reach, loops}
 
 pub either : {a b : Bool} → (a || b) ≡ true → (a ≡ true) ⊎ (b ≡ true)
 either {a} {b} e = go a b e
@@ -82,7 +82,7 @@ module _ (g : Graph) (x : ℕ) where
       let w = last-link (suc s) y e in
       reach-by s y (w .link) (w .low) (w .there) (⊎-elim inl (λ r. inr (h (g .from (w .link)) r)) (w .came))
 
-  module _ (i : Inside g) where
+  module _ (i : LinksInside g) where
     abbrev new : ℕ → ℕ → Bool
     new s y = reach g x (suc s) y && not (reach g x s y)
 
@@ -129,11 +129,12 @@ Free g = (x : ℕ) → x < g .n → loops g x ≡ false
 pub rank-low : (g : Graph) (y : ℕ) → rank g y ≤ g .n
 rank-low g y = count-le (λ x. reach g x (g .n) y) 0 (g .n)
 
-pub rank-up : (g : Graph) → Inside g → Free g → (k : ℕ) → k < g .e → rank g (g .from k) < rank g (g .to k)
+pub rank-up : (g : Graph) → LinksInside g → Free g → (k : ℕ) → k < g .e → rank g (g .from k) < rank g (g .to k)
 unfolding loops
 rank-up g i h k l =
     let a : ℕ = g .from k in
-    count-strict (λ x. reach g x (g .n) a) (λ x. reach g x (g .n) (g .to k)) (g .n) a (i .starts k l) (h a (i .starts k l)) (way-reach g a i (one k l refl refl))
+    count-strict (λ x. reach g x (g .n) a) (λ x. reach g x (g .n) (g .to k)) (g .n) a (i .starts k l) (h a (i .starts k l))
+    (way-reach g a i (one k l refl refl))
     (λ x r. way-reach g x i (more (reach-way g x (g .n) a r) k l refl refl))
 
 -- a number that grows along each link shows that there is no cycle

@@ -8,7 +8,7 @@ use native.Mathlib.Omega.{arith}
 use lib.Dec.{eqb}
 use borrow.Author.Tests.{eqb-true, eq-eqb}
 use Rattle.vocabulary.specs.Test.{decide}
-use Rattle.graph.specs.Graph.{Graph, Inside}
+use Rattle.graph.specs.Graph.{Graph, LinksInside}
 use Rattle.graph.specs.Reach.{Free, rank, rank-low, rank-up}
 use Rattle.graph.specs.Longest.{most, brings, entry, Solves, rounds}
 
@@ -61,7 +61,7 @@ module _ (g : Graph) (b w : ℕ → ℕ) where
       go k l (inr e) = rw e
 
   -- own numbers that agree on the jobs
-  pub rounds-same : Inside g → (b′ : ℕ → ℕ) → ((x : ℕ) → x < g .n → b x ≡ b′ x) → (s x : ℕ) → x < g .n → rounds g b w s x ≡ rounds g b′ w s x
+  pub rounds-same : LinksInside g → (b′ : ℕ → ℕ) → ((x : ℕ) → x < g .n → b x ≡ b′ x) → (s x : ℕ) → x < g .n → rounds g b w s x ≡ rounds g b′ w s x
   unfolding rounds entry
   rounds-same i b′ h zero x l = h x l
   rounds-same i b′ h (suc s) x l =
@@ -73,7 +73,7 @@ module _ (g : Graph) (b w : ℕ → ℕ) where
     pub own : (x : ℕ) → x < g .n → b x ≤ v x
     pub link : (k : ℕ) → k < g .e → v (g .from k) + w (g .from k) ≤ v (g .to k)
 
-  pub rounds-under : Inside g → (v : ℕ → ℕ) → Over v → (s x : ℕ) → x < g .n → rounds g b w s x ≤ v x
+  pub rounds-under : LinksInside g → (v : ℕ → ℕ) → Over v → (s x : ℕ) → x < g .n → rounds g b w s x ≤ v x
   unfolding rounds
   rounds-under i v o zero x l = o .own x l
   rounds-under i v o (suc s) x l =
@@ -81,21 +81,22 @@ module _ (g : Graph) (b w : ℕ → ℕ) where
       (λ k lk t. omega (arith, rounds-under i v o s (g .from k) (i .starts k lk), o .link k lk, ap v t))
 
   -- a round adds at most one weight
-  pub rounds-bound : Inside g → (B W : ℕ) → ((x : ℕ) → x < g .n → b x ≤ B) → ((x : ℕ) → x < g .n → w x ≤ W) → (s x : ℕ) → x < g .n → rounds g b w s x ≤ B + s * W
+  pub rounds-bound : LinksInside g → (B W : ℕ) → ((x : ℕ) → x < g .n → b x ≤ B) → ((x : ℕ) → x < g .n → w x ≤ W) → (s x : ℕ) → x < g .n
+      → rounds g b w s x ≤ B + s * W
   unfolding rounds
   rounds-bound i B W hb hw zero x l = omega (arith, hb x l)
   rounds-bound i B W hb hw (suc s) x l =
       entry-under (rounds g b w s) x (B + suc s * W) (omega (arith, hb x l))
       (λ k lk t. omega (arith, rounds-bound i B W hb hw s (g .from k) (i .starts k lk), hw (g .from k) (i .starts k lk)))
 
-  pub solves-over : Inside g → (v : ℕ → ℕ) → Solves g b w v → Over v
+  pub solves-over : LinksInside g → (v : ℕ → ℕ) → Solves g b w v → Over v
   solves-over i v h =
       record {
         own = λ x l. omega (arith, h x l, entry-base v x);
         link = λ k l. omega (arith, h (g .to k) (i .ends k l), entry-link v k l);
       }
 
-  module _ (i : Inside g) (free : Free g) where
+  module _ (i : LinksInside g) (free : Free g) where
     steady : (s x : ℕ) → rank g x ≤ s → rounds g b w (suc s) x ≡ rounds g b w s x
     unfolding rounds
     steady zero x l =

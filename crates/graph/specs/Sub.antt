@@ -10,7 +10,7 @@ use lib.IntN.{ℤ, pos, negsuc, subℕ, _-ℤ_}
 use lib.Signed.{leZ}
 use borrow.Author.Tests.{lt-ltb, le-ltb, le-leb, lt-leb}
 use Rattle.vocabulary.specs.Test.{lt-or-le, pick}
-use Rattle.graph.specs.Graph.{Graph, Inside}
+use Rattle.graph.specs.Graph.{Graph, LinksInside}
 use Rattle.graph.specs.Longest.{most, entry, rounds}
 use Rattle.graph.specs.Soonest.{minZ, fewest, due, soonest}
 
@@ -70,12 +70,14 @@ min-sub z a b = go (lt-or-le a b)
     go (inl l) = ap (λ (t : Bool). pick t (subℕ z a) (subℕ z b)) (lt-sub z a b l) ∙ ap (subℕ z) (let e : b ≡ max a b = omega arith in e)
     go (inr l) = ap (λ (t : Bool). pick t (subℕ z a) (subℕ z b)) (le-sub z a b l) ∙ ap (subℕ z) (let e : a ≡ max a b = omega arith in e)
 
-fewest-sub : (z : ℕ) (p : ℕ → Bool) (f : ℕ → ℤ) (h : ℕ → ℕ) (b : ℤ) (a n : ℕ) → b ≡ subℕ z a → ((k : ℕ) → k < n → f k ≡ subℕ z (h k)) → fewest p f b n ≡ subℕ z (most (λ k. pick (p k) (h k) 0) a n)
+fewest-sub : (z : ℕ) (p : ℕ → Bool) (f : ℕ → ℤ) (h : ℕ → ℕ) (b : ℤ) (a n : ℕ) → b ≡ subℕ z a → ((k : ℕ) → k < n → f k ≡ subℕ z (h k))
+    → fewest p f b n ≡ subℕ z (most (λ k. pick (p k) (h k) 0) a n)
 unfolding fewest most
 fewest-sub z p f h b a zero eb e = eb
 fewest-sub z p f h b a (suc n) eb e = go (p n) (fewest-sub z p f h b a n eb (λ k l. e k (omega arith))) (e n (omega arith))
   where
-    go : (q : Bool) → fewest p f b n ≡ subℕ z (most (λ k. pick (p k) (h k) 0) a n) → f n ≡ subℕ z (h n) → pick q (minZ (fewest p f b n) (f n)) (fewest p f b n) ≡ subℕ z (max (most (λ k. pick (p k) (h k) 0) a n) (pick q (h n) 0))
+    go : (q : Bool) → fewest p f b n ≡ subℕ z (most (λ k. pick (p k) (h k) 0) a n) → f n ≡ subℕ z (h n)
+        → pick q (minZ (fewest p f b n) (f n)) (fewest p f b n) ≡ subℕ z (max (most (λ k. pick (p k) (h k) 0) a n) (pick q (h n) 0))
     go true r s = ap₂ minZ r s ∙ min-sub z (most (λ k. pick (p k) (h k) 0) a n) (h n)
     go false r s = r ∙ ap (subℕ z) (let e : most (λ k. pick (p k) (h k) 0) a n ≡ max (most (λ k. pick (p k) (h k) 0) a n) 0 = omega arith in e)
 
@@ -83,7 +85,8 @@ abbrev pub flip : Graph → Graph
 flip g = record { n = g .n; e = g .e; from = g .to; to = g .from }
 
 -- ==== the adjusted deadline is z less the greatest of z less the own deadline and of what successors bring
-pub soonest-sub : (g : Graph) (d c : ℕ → ℕ) (z : ℕ) → Inside g → ((x : ℕ) → x < g .n → d x ≤ z) → (s x : ℕ) → x < g .n → soonest g d c s x ≡ subℕ z (rounds (flip g) (λ y. z - d y) c s x)
+pub soonest-sub : (g : Graph) (d c : ℕ → ℕ) (z : ℕ) → LinksInside g → ((x : ℕ) → x < g .n → d x ≤ z) → (s x : ℕ) → x < g .n
+    → soonest g d c s x ≡ subℕ z (rounds (flip g) (λ y. z - d y) c s x)
 unfolding soonest due rounds entry
 soonest-sub g d c z i h zero x l = sym (sub-back z (d x) (h x l))
 soonest-sub g d c z i h (suc s) x l =

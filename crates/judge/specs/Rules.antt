@@ -5,7 +5,8 @@ use Prim.Native.Nat.{ℕ, _+_, _-_, _%_}
 use lib.Dec.{eqb, leb, ltb}
 use lib.ListN.{getD}
 use Rattle.vocabulary.specs.Least.{some}
-use Rattle.kinds.specs.Tasks.{Tasks, Patterns, period, running, offset, deadline, fromTask, toTask, pairCount}
+use Rattle.kinds.specs.Tasks.{Tasks, period, running, offset}
+use Rattle.kinds.specs.Tasks.{Patterns, deadline, fromTask, toTask, pairCount}
 use Rattle.kinds.specs.Cycle.{jobsOf}
 use Rattle.kinds.specs.Jobs.{release}
 use Rattle.kinds.specs.Links.{linkFrom, linkTo, repeats}

@@ -1,49 +1,61 @@
-// What a job gets, read from the tables of one cycle.
+// What a job gets, read from the table of one cycle.
 ghost use mathlib.Core.Path.{_≡_};
-ghost use Prim.Native.Nat.{_/_, _<_, _≤_};
-ghost use lib.ListN.{getD};
-ghost use Rattle.judge.specs.Gets.{Gets};
-ghost use Rattle.judge.specs.Got.{Tells};
-use crate::Got;
+ghost use Prim.Native.Nat.{_<_, _≤_};
+ghost use Rattle.kinds.specs.Tasks.{taskAt};
+ghost use Rattle.judge.specs.JobTicks.{Gets};
+ghost use Rattle.judge.specs.TableNeeds.{laneOf, Tells};
+use crate::JobTicks;
 use crate::Lane;
-use crate::index;
+use kinds::Attributes;
 
 // The jobs of task i.
-pub(crate) fn lane_of(h: u32, period: &[u32; 64], base: &[u32; 64], i: usize) -> Lane
-    requires { ⌜ (i < 64) × (0 < getD (now period) i 0) ⌝ }
-    ensures { λ r. ⌜ (r .base ≡ getD (now (base .entry)) i 0) × (r .jobs ≡ h / getD (now (period .entry)) i 0) ⌝ }
+pub(crate) fn lane_of(h: u32, attributes: &Attributes, base: &[u32; 64], i: usize) -> Lane
+    requires { ⌜ (i < 64) × (0 < taskAt (now attributes) i .period) ⌝ }
+    ensures { λ r. ⌜ r ≡ laneOf h (now (attributes .entry)) (now (base .entry)) i ⌝ }
 {
+    let task = kinds::task_at(attributes, i);
     Lane {
         base: base[i],
-        jobs: h / period[i],
+        jobs: h / task.period,
+        task,
+    }
+}
+
+// What job k of the cycle gets. A job without ticks has its release for the first and the last.
+fn ticks_of_job(rows: &[[u32; 3]], l: Lane, k: u32) -> JobTicks
+    requires { ⌜ Tells (now rows) l × (k < l .jobs) ⌝ }
+    ensures { λ r. ⌜ ((t : Tells (now (rows .entry)) l) → Gets (t .tasks) (t .plan) (t .task) k (r .count) (r .first) (r .last)) ⌝ }
+{
+    let row = rows[(l.base + k) as usize];
+    if row[0] == 0 {
+        let o = l.task.offset + k * l.task.period;
+        return JobTicks {
+            count: 0,
+            first: o,
+            last: o,
+        };
+    }
+    JobTicks {
+        count: row[0],
+        first: row[1],
+        last: row[2],
     }
 }
 
 // What job k of a task gets. A job past the cycle gets what the job gets that it repeats, whole cycles later.
-pub(crate) fn got(
-    h: u32,
-    counts: &[u32; 2048],
-    firsts: &[u32; 2048],
-    lasts: &[u32; 2048],
-    l: Lane,
-    k: u32,
-) -> Got
-    requires { ⌜ Tells h (now counts) (now firsts) (now lasts) l × (k ≤ 600000) ⌝ }
-    ensures { λ r. ⌜ ((t : Tells h (now (counts .entry)) (now (firsts .entry)) (now (lasts .entry)) l) → Gets (t .tasks) (t .plan) (t .task) k (r .count) (r .first) (r .last)) ⌝ }
+pub(crate) fn got(rows: &[[u32; 3]], l: Lane, k: u32) -> JobTicks
+    requires { ⌜ Tells (now rows) l × (k ≤ 600000) ⌝ }
+    ensures { λ r. ⌜ ((t : Tells (now (rows .entry)) l) → Gets (t .tasks) (t .plan) (t .task) k (r .count) (r .first) (r .last)) ⌝ }
 {
     if k < l.jobs {
-        let x = index(l.base + k);
-        return Got {
-            count: counts[x],
-            first: firsts[x],
-            last: lasts[x],
-        };
+        return ticks_of_job(rows, l, k);
     }
-    let x = index(l.base + k % l.jobs);
-    let d = k / l.jobs * h;
-    Got {
-        count: counts[x],
-        first: firsts[x] + d,
-        last: lasts[x] + d,
+    let j = k % l.jobs;
+    let d = (k - j) * l.task.period;
+    let g = ticks_of_job(rows, l, j);
+    JobTicks {
+        count: g.count,
+        first: g.first + d,
+        last: g.last + d,
     }
 }

@@ -4,8 +4,8 @@ ghost use Prim.Native.Nat.{_≤_};
 ghost use lib.ListN.{length};
 ghost use Rattle.vocabulary.specs.Least.{least};
 ghost use Rattle.judge.specs.Rules.{high};
-ghost use Rattle.judge.specs.High.{Topped};
-use crate::wide;
+ghost use Rattle.judge.specs.HighSlots.{Topped};
+use crate::leaves::slot_value;
 
 fn larger(a: u8, b: u8) -> u8
     ensures { λ r. ⌜ (a ≤ r) × (b ≤ r) ⌝ }
@@ -35,7 +35,7 @@ fn seek_high(slots: &[u8], n: usize) -> usize
 {
     let mut e: usize = 0;
     while e < slots.len() {
-        if n < wide(slots[e]) {
+        if n < slot_value(slots[e]) {
             return e;
         }
         e += 1;
@@ -44,10 +44,10 @@ fn seek_high(slots: &[u8], n: usize) -> usize
 }
 
 // The lowest slot above n, or the plan's length. A bound of all slots is found faster than the first that is too high, and few plans have one.
-pub(crate) fn first_high(slots: &[u8], n: usize) -> usize
+pub fn first_high(slots: &[u8], n: usize) -> usize
     ensures { λ r. ⌜ r ≡ least (high (now (slots .entry)) n) (length (now (slots .entry))) ⌝ }
 {
-    if wide(highest(slots)) <= n {
+    if slot_value(highest(slots)) <= n {
         return slots.len();
     }
     seek_high(slots, n)

@@ -1,31 +1,34 @@
 // The judge of plans.
 ghost use lib.ListN.{getD};
 ghost use mathlib.Core.Path.{_≡_};
-ghost use mathlib.Core.Bool.{true};
-ghost use mathlib.Core.Logic.{_⊎_};
-ghost use Prim.Native.Nat.{_<_};
-ghost use Rattle.vocabulary.specs.Least.{some};
-ghost use Rattle.kinds.specs.Tasks.{tasksOf, patternsOf, view};
+ghost use Prim.Native.Nat.{_*_, _<_, _≤_};
+ghost use Rattle.vocabulary.specs.Tally.{Fresh};
+ghost use Rattle.kinds.specs.Tasks.{Tasks, view};
+ghost use Rattle.kinds.specs.Cycle.{jobs};
 ghost use Rattle.kinds.specs.Plans.{plan};
-ghost use Rattle.judge.specs.Rules.{clashes, strayed};
+ghost use Rattle.kinds.specs.SoundByTests.{CountsFound};
 ghost use Rattle.judge.specs.Answers.{numberOf, evidenceOf};
 ghost use Rattle.judge.specs.Judgement.{verdictOf, verdictFrom};
-ghost use Rattle.judge.specs.Keys.{timesOf, Fit};
-ghost use Rattle.judge.specs.Asked.{Asked};
-ghost use Rattle.judge.specs.Ways.{misplacedVerdict, lengthVerdict, Held};
-ghost use Rattle.reader.specs.Tables.{taskTables, patternTables};
-ghost use Rattle.reader.specs.Files.{setOf};
-ghost use Rattle.judge.specs.Heads.{judgedOf, wholeVerdict};
+ghost use Rattle.judge.specs.Heads.{judgedOf};
+ghost use Rattle.judge.specs.JobOfSlot.{Fit};
+ghost use Rattle.judge.specs.RowMarks.{Worded};
+ghost use Rattle.judge.specs.Sweep.{Halted};
+ghost use Rattle.judge.specs.TableNeeds.{PlanNeeds};
+ghost use Rattle.judge.specs.Lent.{lentTasks, lentPatterns, lentSet, lentPlan, misplacedVerdict};
+use heads::Head;
+use kinds::Attributes;
+use kinds::Counts;
+use kinds::Headings;
+use kinds::Pairs;
+use kinds::Task;
 use kinds::TaskSet;
-use reader::Head;
-use reader::Shape;
 
+mod bases;
 mod counts;
 mod gets;
-mod high;
+pub mod high;
+mod leaves;
 mod links;
-mod starts;
-mod stray;
 mod twice;
 mod walk;
 
@@ -46,14 +49,15 @@ pub enum Verdict {
     BrokenLink(u32, u32, u32),
 }
 
-// A task's jobs in the tables of a cycle: the number of the first, and how many there are.
+// A task's jobs in the table of a cycle: the number of the first, how many there are, and the task.
 struct Lane {
     base: u32,
     jobs: u32,
+    task: Task,
 }
 
 // What a job gets: how many ticks in its window, the first and the last of them in true time; without ticks, its release for both.
-struct Got {
+struct JobTicks {
     count: u32,
     first: u32,
     last: u32,
@@ -61,7 +65,7 @@ struct Got {
 
 // How a pattern's links step through the jobs: its two tasks' jobs, how many jobs of each lie from a link to the next, and how many links a pair makes in
 // a cycle.
-struct Steps {
+struct LinkSteps {
     from: Lane,
     to: Lane,
     first: u32,
@@ -69,303 +73,112 @@ struct Steps {
     rounds: u32,
 }
 
-fn wide(x: u8) -> usize
-    ensures { λ r. ⌜ r ≡ x ⌝ }
-{
-    x as usize
-}
-
-fn wide16(x: u16) -> u32
-    ensures { λ r. ⌜ (r ≡ x) × (r < 65536) ⌝ }
-{
-    x as u32
-}
-
-fn index(x: u32) -> usize
-    ensures { λ r. ⌜ (r ≡ x) × (r < 4294967296) ⌝ }
-{
-    x as usize
-}
-
-// Rule 20 or 21, where one of the two is broken.
-fn misplaced(
-    slots: &[u8],
-    m: usize,
-    h: u32,
-    n: usize,
-    period: &[u32; 64],
-    offset: &[u32; 64],
-    deadline: &[u32; 64],
-) -> Verdict
-    requires { ⌜ Fit (timesOf n (now period) (now offset) (now deadline)) (plan (now slots) m h) × ((some (clashes (plan (now slots) m h)) h ≡ true) ⊎ (some (strayed (timesOf n (now period) (now offset) (now deadline)) (plan (now slots) m h)) h ≡ true)) ⌝ }
-    ensures { λ r. ⌜ r ≡ misplacedVerdict (timesOf n (now (period .entry)) (now (offset .entry)) (now (deadline .entry))) (plan (now (slots .entry)) m h) ⌝ }
+// Rule 20 or 21, where the walk stopped at slot e: the lowest tick in which a task stands twice; where there is none, slot e lies outside.
+fn misplaced(slots: &[u8], m: usize, h: u32, e: usize) -> Verdict
+    requires { ⌜ Worded (now slots) m h × (0 < m) × (m ≤ 8) × (e < h * m) ⌝ }
+    ensures { λ r. ⌜ ((u : Tasks) → Halted u (plan (now (slots .entry)) m h) e → r ≡ misplacedVerdict u (plan (now (slots .entry)) m h)) ⌝ }
 {
     let c = twice::first_twice(slots, m, h);
     if c < h {
-        return twice::twice_in(slots, m, h, c);
+        let q = twice::first_mated(slots, m, h, c);
+        let r = twice::mate_of(slots, m, h, c, q);
+        return Verdict::Twice(c, q as u32, r as u32);
     }
-    stray::outside_at(slots, m, h, n, period, offset, deadline)
+    Verdict::Outside((e / m) as u32, (e % m) as u32)
 }
 
-// Rules 20 to 23, by one walk over the slots that fills three tables: how many ticks each job gets, the first and the last.
+// Rules 20 to 23, by one walk over the slots that fills a table with a row for each job: how many ticks it gets, the first and the last.
 fn judge_rows(
+    f: Counts,
+    attributes: &Attributes,
+    headings: &Headings,
+    pairs: &Pairs,
     slots: &[u8],
-    m: usize,
-    h: u32,
-    n: usize,
-    period: &[u32; 64],
-    running: &[u32; 64],
-    offset: &[u32; 64],
-    deadline: &[u32; 64],
-    patterns: usize,
-    from: &[u32; 64],
-    to: &[u32; 64],
-    pairs: &[u32; 64],
-    first: &[u16; 1024],
-    second: &[u16; 1024],
+    rows: &mut [[u32; 3]],
 ) -> Verdict
-    requires { ⌜ Asked (tasksOf n (now period) (now running) (now offset) (now deadline)) (patternsOf patterns (now from) (now to) (now pairs) (now first) (now second)) (plan (now slots) m h) × Fit (tasksOf n (now period) (now running) (now offset) (now deadline)) (plan (now slots) m h) ⌝ }
-    ensures { λ r. ⌜ r ≡ verdictFrom 20 (tasksOf n (now (period .entry)) (now (running .entry)) (now (offset .entry)) (now (deadline .entry))) (patternsOf patterns (now (from .entry)) (now (to .entry)) (now (pairs .entry)) (now (first .entry)) (now (second .entry))) (plan (now (slots .entry)) m h) ⌝ }
+    requires { ⌜ PlanNeeds (lentTasks f (now attributes)) (lentPatterns f (now headings) (now pairs)) (lentPlan f (now slots))
+        × Fit (lentTasks f (now attributes)) (lentPlan f (now slots)) × Fresh (jobs (lentTasks f (now attributes))) (now rows) ⌝ }
+    ensures { λ r. ⌜ r ≡ verdictFrom 20 (lentTasks f (now (attributes .entry))) (lentPatterns f (now (headings .entry)) (now (pairs .entry)))
+        (lentPlan f (now (slots .entry))) ⌝ }
 {
     let mut base = [0u32; 64];
-    let mut counts = [0u32; 2048];
-    let mut firsts = [0u32; 2048];
-    starts::fill_starts(h, n, period, offset, &mut base, &mut firsts);
-    let mut lasts = firsts;
-    if !walk::sweep(
-        slots,
-        m,
-        h,
-        n,
-        period,
-        offset,
-        deadline,
-        &base,
-        &mut counts,
-        &mut firsts,
-        &mut lasts,
-    ) {
-        return misplaced(slots, m, h, n, period, offset, deadline);
+    bases::put_first_jobs(f, attributes, &mut base);
+    let e = walk::sweep(f, attributes, &base, slots, rows);
+    if e < slots.len() {
+        return misplaced(slots, f.processors as usize, f.ticks, e);
     }
-    let i = counts::wrong_task(h, n, period, running, &base, &counts, &firsts, &lasts);
-    if i < n {
-        return counts::wrong_count(h, n, i, period, running, &base, &counts, &firsts, &lasts);
-    }
-    links::judge_links(
-        h,
-        period,
-        &base,
-        patterns,
-        from,
-        to,
-        pairs,
-        first,
-        second,
-        &counts,
-        &firsts,
-        &lasts,
-    )
+    counts::judge_counts(f, attributes, headings, pairs, &base, rows)
 }
 
-// Rules 12 to 23, over the tables of a sound set, for a plan of m * h slots, where h is the set's cycle.
-fn judge_tables(
+// The same, with a table of its own: a set with few jobs pays for a small one.
+fn judge_slots(
+    f: Counts,
+    attributes: &Attributes,
+    headings: &Headings,
+    pairs: &Pairs,
     slots: &[u8],
-    m: usize,
-    h: u32,
-    n: usize,
-    period: &[u32; 64],
-    running: &[u32; 64],
-    offset: &[u32; 64],
-    deadline: &[u32; 64],
-    patterns: usize,
-    from: &[u32; 64],
-    to: &[u32; 64],
-    pairs: &[u32; 64],
-    first: &[u16; 1024],
-    second: &[u16; 1024],
 ) -> Verdict
-    requires { ⌜ Asked (tasksOf n (now period) (now running) (now offset) (now deadline)) (patternsOf patterns (now from) (now to) (now pairs) (now first) (now second)) (plan (now slots) m h) ⌝ }
-    ensures { λ r. ⌜ r ≡ verdictFrom 12 (tasksOf n (now (period .entry)) (now (running .entry)) (now (offset .entry)) (now (deadline .entry))) (patternsOf patterns (now (from .entry)) (now (to .entry)) (now (pairs .entry)) (now (first .entry)) (now (second .entry))) (plan (now (slots .entry)) m h) ⌝ }
+    requires { ⌜ PlanNeeds (lentTasks f (now attributes)) (lentPatterns f (now headings) (now pairs)) (lentPlan f (now slots))
+        × Fit (lentTasks f (now attributes)) (lentPlan f (now slots)) × (f .jobs ≡ jobs (lentTasks f (now attributes))) ⌝ }
+    ensures { λ r. ⌜ r ≡ verdictFrom 20 (lentTasks f (now (attributes .entry))) (lentPatterns f (now (headings .entry)) (now (pairs .entry)))
+        (lentPlan f (now (slots .entry))) ⌝ }
 {
-    let e = high::first_high(slots, n);
+    let n = f.jobs as usize;
+    if n <= 64 {
+        let mut few = [[0u32; 3]; 64];
+        return judge_rows(f, attributes, headings, pairs, slots, &mut few[..n]);
+    }
+    let mut rows = [[0u32; 3]; 2048];
+    judge_rows(f, attributes, headings, pairs, slots, &mut rows[..n])
+}
+
+// Rules 11 to 23, over the numbers and tables of a sound set. The tables have one lifetime, so that the fields of one set can be lent together.
+fn judge_tables<'a>(
+    f: Counts,
+    attributes: &'a Attributes,
+    headings: &'a Headings,
+    pairs: &'a Pairs,
+    slots: &[u8],
+) -> Verdict
+    requires { ⌜ CountsFound (lentSet f (now attributes) (now headings) (now pairs)) f ⌝ }
+    ensures { λ r. ⌜ r ≡ verdictOf (lentSet f (now (attributes .entry)) (now (headings .entry)) (now (pairs .entry))) (now (slots .entry)) ⌝ }
+{
+    if slots.len() != f.processors as usize * f.ticks as usize {
+        return Verdict::WrongLength;
+    }
+    let e = high::first_high(slots, f.tasks);
     if e < slots.len() {
         return Verdict::BadSlot(e);
     }
-    judge_rows(
-        slots,
-        m,
-        h,
-        n,
-        period,
-        running,
-        offset,
-        deadline,
-        patterns,
-        from,
-        to,
-        pairs,
-        first,
-        second,
-    )
-}
-
-// Rules 11 to 23, over the tables of a sound set and its cycle.
-fn judge_lent(
-    slots: &[u8],
-    processors: u32,
-    h: u32,
-    n: usize,
-    period: &[u32; 64],
-    running: &[u32; 64],
-    offset: &[u32; 64],
-    deadline: &[u32; 64],
-    patterns: usize,
-    from: &[u32; 64],
-    to: &[u32; 64],
-    pairs: &[u32; 64],
-    first: &[u16; 1024],
-    second: &[u16; 1024],
-) -> Verdict
-    requires { ⌜ Held (tasksOf n (now period) (now running) (now offset) (now deadline)) (patternsOf patterns (now from) (now to) (now pairs) (now first) (now second)) processors h ⌝ }
-    ensures { λ r. ⌜ r ≡ lengthVerdict (tasksOf n (now (period .entry)) (now (running .entry)) (now (offset .entry)) (now (deadline .entry))) (patternsOf patterns (now (from .entry)) (now (to .entry)) (now (pairs .entry)) (now (first .entry)) (now (second .entry))) processors h (now (slots .entry)) ⌝ }
-{
-    let m = index(processors);
-    if slots.len() != m * index(h) {
-        return Verdict::WrongLength;
-    }
-    judge_tables(
-        slots,
-        m,
-        h,
-        n,
-        period,
-        running,
-        offset,
-        deadline,
-        patterns,
-        from,
-        to,
-        pairs,
-        first,
-        second,
-    )
+    judge_slots(f, attributes, headings, pairs, slots)
 }
 
 // The verdict on a plan for a task set.
 pub fn judge(set: TaskSet, plan: &[u8]) -> Verdict
     ensures { λ r. ⌜ r ≡ verdictOf (view set) (now (plan .entry)) ⌝ }
 {
-    if !kinds::is_sound(set) {
+    let f = kinds::counts_of(set);
+    if f.ticks == 0 {
         return Verdict::BadSet;
     }
-    let n = set.tasks;
-    let period = set.period;
-    let running = set.running;
-    let offset = set.offset;
-    let deadline = set.deadline;
-    let from = set.from;
-    let to = set.to;
-    let pairs = set.pairs;
-    let first = set.first;
-    let second = set.second;
-    let cycle = kinds::cycle_of(&period, n);
-    judge_lent(
-        plan,
-        set.processors,
-        cycle.ticks,
-        n,
-        &period,
-        &running,
-        &offset,
-        &deadline,
-        set.patterns,
-        &from,
-        &to,
-        &pairs,
-        &first,
-        &second,
-    )
-}
-
-// The verdict over the tables of a head that was read; where the head is not whole, bytes were left over after it.
-fn judge_read(
-    slots: &[u8],
-    f: Shape,
-    whole: bool,
-    period: &[u32; 64],
-    running: &[u32; 64],
-    offset: &[u32; 64],
-    deadline: &[u32; 64],
-    from: &[u32; 64],
-    to: &[u32; 64],
-    pairs: &[u32; 64],
-    first: &[u16; 1024],
-    second: &[u16; 1024],
-) -> Verdict
-    requires { ⌜ (whole ≡ true → Held (tasksOf (f .tasks) (now period) (now running) (now offset) (now deadline)) (patternsOf (f .patterns) (now from) (now to) (now pairs) (now first) (now second)) (f .processors) (f .ticks)) ⌝ }
-    ensures { λ r. ⌜ r ≡ wholeVerdict whole (view (setOf f (taskTables (now (period .entry)) (now (running .entry)) (now (offset .entry)) (now (deadline .entry))) (patternTables (now (from .entry)) (now (to .entry)) (now (pairs .entry)) (now (first .entry)) (now (second .entry))))) (f .ticks) (now (slots .entry)) ⌝ }
-{
-    if whole {
-        return judge_lent(
-            slots,
-            f.processors,
-            f.ticks,
-            f.tasks,
-            period,
-            running,
-            offset,
-            deadline,
-            f.patterns,
-            from,
-            to,
-            pairs,
-            first,
-            second,
-        );
-    }
-    Verdict::BadSet
+    judge_tables(f, &set.attributes, &set.headings, &set.pairs, plan)
 }
 
 // The verdict on a set that is given as the head of a file; bytes that are no head, or more than one, are 10. It copies no set.
 pub fn judge_head(tasks: &[u8], plan: &[u8]) -> Verdict
     ensures { λ r. ⌜ r ≡ judgedOf (now (tasks .entry)) (now (plan .entry)) ⌝ }
 {
-    let mut period = [0u32; 64];
-    let mut running = [0u32; 64];
-    let mut offset = [0u32; 64];
-    let mut deadline = [0u32; 64];
-    let mut from = [0u32; 64];
-    let mut to = [0u32; 64];
-    let mut pairs = [0u32; 64];
-    let mut first = [0u16; 1024];
-    let mut second = [0u16; 1024];
-    match reader::read_head(
-        tasks,
-        &mut period,
-        &mut running,
-        &mut offset,
-        &mut deadline,
-        &mut from,
-        &mut to,
-        &mut pairs,
-        &mut first,
-        &mut second,
-    ) {
+    let mut attributes = [0u32; 256];
+    let mut headings = [0u32; 192];
+    let mut pairs = [0u16; 2048];
+    match heads::read_head(tasks, &mut attributes, &mut headings, &mut pairs) {
         Head::Refused(_) => Verdict::BadSet,
-        Head::Of(f, at) => judge_read(
-            plan,
-            f,
-            at == tasks.len(),
-            &period,
-            &running,
-            &offset,
-            &deadline,
-            &from,
-            &to,
-            &pairs,
-            &first,
-            &second,
-        ),
+        Head::Of(f, at) => {
+            if at != tasks.len() {
+                return Verdict::BadSet;
+            }
+            judge_tables(f, &attributes, &headings, &pairs, plan)
+        }
     }
 }
 

@@ -1,16 +1,12 @@
 // The evidence of rule 20: "a task twice in one tick".
 ghost use mathlib.Core.Path.{_≡_};
-ghost use mathlib.Core.Bool.{true};
-ghost use Prim.Native.Nat.{_*_, _<_, _≤_};
+ghost use Prim.Native.Nat.{_*_, _<_};
 ghost use Rattle.vocabulary.specs.Least.{least};
 ghost use Rattle.kinds.specs.Plans.{plan, slot};
 ghost use Rattle.judge.specs.Rules.{twin, mated, clashes};
-ghost use Rattle.judge.specs.Row.{Worded};
-ghost use Rattle.judge.specs.Ways.{twiceIn};
-use crate::Verdict;
-use crate::index;
-use crate::walk::is_marked;
-use crate::walk::mark;
+ghost use Rattle.judge.specs.RowMarks.{Worded};
+use crate::leaves::has_slot;
+use crate::leaves::mark;
 
 // A task stands twice in tick c, whose slots start at place a.
 fn is_row_twice(slots: &[u8], m: usize, h: u32, c: u32, a: usize) -> bool
@@ -21,7 +17,7 @@ fn is_row_twice(slots: &[u8], m: usize, h: u32, c: u32, a: usize) -> bool
     let mut q: usize = 0;
     while q < m {
         let v = slots[a + q];
-        if is_marked(x, v) {
+        if has_slot(x, v) {
             return true;
         }
         x = mark(x, v);
@@ -52,7 +48,7 @@ pub(crate) fn slot_at(slots: &[u8], m: usize, h: u32, c: u32, q: usize) -> u8
     requires { ⌜ Worded (now slots) m h × (c < h) × (q < m) ⌝ }
     ensures { λ r. ⌜ r ≡ slot (plan (now (slots .entry)) m h) c q ⌝ }
 {
-    slots[index(c) * m + q]
+    slots[c as usize * m + q]
 }
 
 // Processors q < r show the same task in tick c.
@@ -98,14 +94,4 @@ pub(crate) fn first_mated(slots: &[u8], m: usize, h: u32, c: u32) -> usize
         q += 1;
     }
     q
-}
-
-// Rule 20 in tick c: the lowest processor that has a mate, and the lowest that is its mate.
-pub(crate) fn twice_in(slots: &[u8], m: usize, h: u32, c: u32) -> Verdict
-    requires { ⌜ Worded (now slots) m h × (m ≤ 8) × (c < h) × (clashes (plan (now slots) m h) c ≡ true) ⌝ }
-    ensures { λ r. ⌜ r ≡ twiceIn (plan (now (slots .entry)) m h) c ⌝ }
-{
-    let q = first_mated(slots, m, h, c);
-    let r = mate_of(slots, m, h, c, q);
-    Verdict::Twice(c, q as u32, r as u32)
 }

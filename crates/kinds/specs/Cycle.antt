@@ -1,20 +1,18 @@
 -- The cycle of a set, and its jobs.
 use mathlib.Core.Bool.{Bool, _&&_}
-use mathlib.Core.List.{List, []}
 use Prim.Native.Nat.{ℕ, _/_}
 use lib.Dec.{leb}
-use lib.ListN.{getD}
 use Rattle.vocabulary.specs.Test.{pick}
 use Rattle.vocabulary.specs.Least.{all}
 use Rattle.vocabulary.specs.Total.{total}
 use Rattle.vocabulary.specs.Multiple.{lcm, lcmOf}
 use Rattle.kinds.specs.declared.Cycle.{Cycle}
 use Rattle.kinds.specs.Limits.{holds, periods, longestCycle, mostJobs}
-use Rattle.kinds.specs.Tasks.{Tasks, period, tasksOf}
+use Rattle.kinds.specs.Tasks.{Tasks, period}
 
 -- "H is the least common multiple of all periods."
 unfoldable pub cycle : Tasks → ℕ
-cycle u = lcmOf (λ i. getD (u .periods) i 0) (u .count)
+cycle u = lcmOf (λ i. period u i) (u .count)
 
 -- "Job numbers below H/T make up one cycle's jobs."
 unfoldable pub jobsOf : Tasks → ℕ → ℕ
@@ -37,23 +35,20 @@ cycleFits u = leb (cycle u) longestCycle && leb (jobs u) mostJobs
 unfoldable pub multipleOf : ℕ → ℕ → ℕ
 multipleOf a b = pick (holds periods a && holds periods b) (lcm a b) 0
 
--- of a set the cycle and its jobs need only the periods
-abbrev pub onlyPeriods : List ℕ → ℕ → Tasks
-onlyPeriods ps n = tasksOf n ps [] [] []
+-- periods in their range, no more than a table has
+unfoldable pub periodsFit : Tasks → Bool
+periodsFit u = leb (u .count) 64 && all (λ i. holds periods (period u i)) (u .count)
 
--- n periods in their range, no more than a table has
-unfoldable pub periodsFit : List ℕ → ℕ → Bool
-periodsFit ps n = leb n 64 && all (λ i. holds periods (getD ps i 0)) n
-
--- the cycle of n periods that are in their range and make one of at most 6,000; else 0
-unfoldable pub ticksOf : List ℕ → ℕ → ℕ
-ticksOf ps n = let u : Tasks = onlyPeriods ps n in pick (all (λ i. holds periods (getD ps i 0)) n && leb (cycle u) longestCycle) (cycle u) 0
+-- the cycle of periods that are in their range and make one of at most 6,000; else 0
+unfoldable pub ticksOf : Tasks → ℕ
+ticksOf u = pick (all (λ i. holds periods (period u i)) (u .count) && leb (cycle u) longestCycle) (cycle u) 0
 
 abbrev pub noCycle : Cycle
 noCycle = record { ticks = 0; jobs = 0 }
 
--- the cycle of n periods that keep rule 5, with its jobs; 0 for both where there is none
-unfoldable pub cycleOf : List ℕ → ℕ → Cycle
-cycleOf ps n =
-    let u : Tasks = onlyPeriods ps n in
-    pick (periodsFit ps n && cycleFits u) (record { ticks = cycle u; jobs = jobs u }) noCycle
+abbrev pub cycleIs : Tasks → Cycle
+cycleIs u = record { ticks = cycle u; jobs = jobs u }
+
+-- the cycle of tasks that keep rule 5, with its jobs; 0 for both where there is none
+unfoldable pub cycleOf : Tasks → Cycle
+cycleOf u = pick (periodsFit u && cycleFits u) (cycleIs u) noCycle

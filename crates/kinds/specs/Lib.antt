@@ -7,9 +7,5 @@ pub mod Sound
 pub mod Plans
 pub mod Valid
 pub mod Build
-pub mod Facts
-pub mod Laws
-pub mod Walk
-pub mod Whole
-pub mod Agree
-pub mod Blank
+pub mod RangeLaws
+pub mod SoundByTests

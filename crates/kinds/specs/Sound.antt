@@ -4,30 +4,37 @@ use mathlib.Core.Bool.{Bool, true, _&&_, not}
 use mathlib.Core.List.{List}
 use Prim.Native.Nat.{ℕ, zero, suc, _+_, _<_, _≤_}
 use lib.Dec.{leb, eqb}
-use lib.ListN.{getD}
 use Rattle.vocabulary.specs.Least.{all}
 use Rattle.kinds.specs.declared.Key.{Key}
+use Rattle.kinds.specs.declared.Task.{Task}
 use Rattle.kinds.specs.declared.Tested.{Tested}
-use Rattle.kinds.specs.Limits.{holds, editions, taskCounts, processorCounts, periods, runnings, offsets, deadlines, patternCounts, mostPairs, mostLinks, noKey, after, rises}
-use Rattle.kinds.specs.Tasks.{Tasks, Patterns, Set, period, running, offset, deadline, fromTask, toTask, pairCount, pairsBefore}
-use Rattle.kinds.specs.Cycle.{cycle, cycleFits}
+use Rattle.kinds.specs.declared.Cycle.{Cycle}
+use Rattle.kinds.specs.declared.Counts.{Counts}
+use Rattle.vocabulary.specs.Test.{pick}
+use Rattle.kinds.specs.Limits.{holds, editions, taskCounts, processorCounts, periods, runnings, offsets, deadlines, patternCounts, mostPairs}
+use Rattle.kinds.specs.Limits.{mostLinks, noKey, after, rises}
+use Rattle.kinds.specs.Tasks.{Tasks, Patterns, Set, taskAt, period, fromTask, toTask, pairCount, pairsBefore, firstIn, secondIn}
+use Rattle.kinds.specs.Cycle.{cycle, cycleFits, cycleIs, noCycle}
 use Rattle.kinds.specs.Links.{common, firstReach, reach, links}
 
 -- "T 1 to 6,000; 1 ≤ C ≤ D ≤ T; 0 ≤ O < T."
-unfoldable pub attributesFit : ℕ → ℕ → ℕ → ℕ → Bool
-attributesFit t c o d = holds periods t && (holds (runnings t) c && (holds (offsets t) o && holds (deadlines t c) d))
+unfoldable pub attributesFit : Task → Bool
+attributesFit t =
+    holds periods (t .period)
+    && (holds (runnings (t .period)) (t .running)
+    && (holds (offsets (t .period)) (t .offset) && holds (deadlines (t .period) (t .running)) (t .deadline)))
 
 unfoldable pub taskFits : Tasks → ℕ → Bool
-taskFits u i = attributesFit (period u i) (running u i) (offset u i) (deadline u i)
+taskFits u i = attributesFit (taskAt (u .attributes) i)
 
--- "pairs strictly by (a, b)": the lowest pair that may stand at q, where the pairs begin at a place of the two tables
-unfoldable pub pairKey : List ℕ → List ℕ → ℕ → ℕ → Key
-pairKey xs ys start zero = noKey
-pairKey xs ys start (suc q) = after (getD xs (start + q) 0) (getD ys (start + q) 0)
+-- "pairs strictly by (a, b)": the lowest pair that may stand at q, where the pairs begin at a place of the table
+unfoldable pub pairKey : List ℕ → ℕ → ℕ → Key
+pairKey ps start zero = noKey
+pairKey ps start (suc q) = after (firstIn ps (start + q)) (secondIn ps (start + q))
 
 -- a pair is in range and in order
-unfoldable pub pairFits : List ℕ → List ℕ → ℕ → ℕ → ℕ → ℕ → Bool
-pairFits xs ys start limitA limitB q = rises (pairKey xs ys start q) limitA limitB (getD xs (start + q) 0) (getD ys (start + q) 0)
+unfoldable pub pairFits : List ℕ → ℕ → ℕ → ℕ → ℕ → Bool
+pairFits ps start limitA limitB q = rises (pairKey ps start q) limitA limitB (firstIn ps (start + q)) (secondIn ps (start + q))
 
 -- "Patterns rise strictly by (from, to)": the lowest that may stand at k
 unfoldable pub patternKey : Patterns → ℕ → Key
@@ -42,7 +49,8 @@ headingFits n low x y count used = rises low n n x y && (not (eqb x y) && (leb 1
 unfoldable pub patternFits : ℕ → Tasks → Patterns → ℕ → Bool
 patternFits e u v k =
     headingFits (u .count) (patternKey v k) (fromTask v k) (toTask v k) (pairCount v k) (pairsBefore v k)
-    && all (pairFits (v .firsts) (v .seconds) (pairsBefore v k) (firstReach (common u v k) (period u (fromTask v k))) (reach e (common u v k) (period u (toTask v k)))) (pairCount v k)
+    && all (pairFits (v .pairs) (pairsBefore v k) (firstReach (common u v k) (period u (fromTask v k)))
+    (reach e (common u v k) (period u (toTask v k)))) (pairCount v k)
 
 -- the rules of the numbers before the tasks: 3 and 4
 unfoldable pub openingFits : ℕ → ℕ → ℕ → Bool
@@ -57,6 +65,21 @@ sound s =
     && (holds patternCounts (s .patterns .count)
     && (all (patternFits (s .edition) (s .tasks) (s .patterns)) (s .patterns .count)
     && leb (links (s .tasks) (s .patterns)) mostLinks))))
+
+-- ---- the cycle and the numbers of a set that is let through; 0 for the cycle of any other
+unfoldable pub soundCycle : Set → Cycle
+soundCycle s = pick (sound s) (cycleIs (s .tasks)) noCycle
+
+unfoldable pub countsOf : Set → Counts
+countsOf s =
+    record {
+      edition = s .edition;
+      processors = s .processors;
+      tasks = s .tasks .count;
+      patterns = s .patterns .count;
+      ticks = soundCycle s .ticks;
+      jobs = soundCycle s .jobs;
+    }
 
 -- ---- what the walk over the patterns answers: whether all are in order, and how many links they make then
 pub record PatternsTested (e : ℕ) (u : Tasks) (v : Patterns) (r : Tested) : Type 0 where

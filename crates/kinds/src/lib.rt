@@ -3,35 +3,64 @@ ghost use mathlib.Core.Path.{_≡_};
 ghost use mathlib.Core.Bool.{Bool, true, false};
 ghost use Prim.Native.Nat.{ℕ, _+_, _*_, _/_, _<_, _≤_};
 ghost use lib.Dec.{eqb};
-ghost use lib.ListN.{getD};
 ghost use Rattle.vocabulary.specs.Test.{pick};
 ghost use Rattle.vocabulary.specs.Total.{total};
 ghost use Rattle.vocabulary.specs.Least.{all};
 ghost use Rattle.vocabulary.specs.Multiple.{lcm};
 ghost use Rattle.kinds.specs.Limits.{Range, range, holds, periods, rises};
-ghost use Rattle.kinds.specs.Tasks.{Tasks, tasksOf, patternsOf, view};
-ghost use Rattle.kinds.specs.Cycle.{multipleOf, onlyPeriods, ticksOf, cycleOf};
+ghost use Rattle.kinds.specs.Tasks.{Tasks, period, tasksOf, patternsOf, pairsIn, taskIn, patternIn, pairIn, view};
+ghost use Rattle.kinds.specs.Cycle.{multipleOf, ticksOf, cycleOf};
 ghost use Rattle.kinds.specs.Links.{spansOf, linksIn};
-ghost use Rattle.kinds.specs.Sound.{attributesFit, taskFits, pairFits, headingFits, PatternsTested, PatternsAsked, openingFits, sound};
-ghost use Rattle.kinds.specs.Build.{noTasks, withTask, withPattern, pairsIn, withPair};
+ghost use Rattle.kinds.specs.Sound.{attributesFit, taskFits, pairFits, headingFits, PatternsTested, PatternsAsked, openingFits, sound, soundCycle, countsOf};
+ghost use Rattle.kinds.specs.Build.{noTasks, withTask, withPattern, withPair};
 
-// A task set as tables of numbers, one for each attribute, so that each can be lent by itself.
+// The tables of a set, each of which can be lent: T, C, O and D of task after task,
+pub type Attributes = [u32; 256];
+// the two tasks and the pair count of pattern after pattern,
+pub type Headings = [u32; 192];
+// and the two numbers of pair after pair, through all patterns.
+pub type Pairs = [u16; 2048];
+
+// A task set: how many tasks and patterns it has, and its tables.
 pub struct TaskSet {
     pub edition: u32,
     pub processors: u32,
-    // How many tasks, and their T, C, O and D.
     pub tasks: usize,
-    pub period: [u32; 64],
-    pub running: [u32; 64],
-    pub offset: [u32; 64],
-    pub deadline: [u32; 64],
-    // How many patterns, their two tasks and their pair counts; the pairs of all patterns stand one after another.
+    pub attributes: Attributes,
     pub patterns: usize,
-    pub from: [u32; 64],
-    pub to: [u32; 64],
-    pub pairs: [u32; 64],
-    pub first: [u16; 1024],
-    pub second: [u16; 1024],
+    pub headings: Headings,
+    pub pairs: Pairs,
+}
+
+// T, C, O and D of one task.
+pub struct Task {
+    pub period: u32,
+    pub running: u32,
+    pub offset: u32,
+    pub deadline: u32,
+}
+
+// The two tasks of a pattern, and how many pairs it has.
+pub struct Pattern {
+    pub from: u32,
+    pub to: u32,
+    pub pairs: u32,
+}
+
+// The two numbers of a pair.
+pub struct Pair {
+    pub first: u32,
+    pub second: u32,
+}
+
+// The numbers of a set, without its tables: how many tasks and patterns it has, and the ticks and jobs of its cycle.
+pub struct Counts {
+    pub edition: u32,
+    pub processors: u32,
+    pub tasks: usize,
+    pub patterns: usize,
+    pub ticks: u32,
+    pub jobs: u32,
 }
 
 // The lowest two numbers that may come next in a rising row of pairs.
@@ -80,6 +109,25 @@ impl TaskSet {
 
     pub const MOST_LINKS: u64 = 4096;
 
+    // How many numbers a task has among the attributes, and where C, O and D stand after T.
+    pub const OF_TASK: usize = 4;
+
+    pub const RUNNING: usize = 1;
+
+    pub const OFFSET: usize = 2;
+
+    pub const DEADLINE: usize = 3;
+
+    // How many numbers a pattern has among the headings, and where the second task and the pair count stand after the first task.
+    pub const OF_PATTERN: usize = 3;
+
+    pub const TO: usize = 1;
+
+    pub const LENGTH: usize = 2;
+
+    // How many numbers a pair has.
+    pub const OF_PAIR: usize = 2;
+
     // A set with no task and no pattern.
     pub fn new(edition: u32, processors: u32) -> TaskSet
         ensures { λ r. ⌜ r ≡ noTasks edition processors ⌝ }
@@ -88,16 +136,10 @@ impl TaskSet {
             edition,
             processors,
             tasks: 0,
-            period: [0; 64],
-            running: [0; 64],
-            offset: [0; 64],
-            deadline: [0; 64],
+            attributes: [0; 256],
             patterns: 0,
-            from: [0; 64],
-            to: [0; 64],
-            pairs: [0; 64],
-            first: [0; 1024],
-            second: [0; 1024],
+            headings: [0; 192],
+            pairs: [0; 2048],
         }
     }
 
@@ -109,10 +151,11 @@ impl TaskSet {
         if TaskSet::MOST_TASKS <= i {
             return self;
         }
-        self.period[i] = period;
-        self.running[i] = running;
-        self.offset[i] = offset;
-        self.deadline[i] = deadline;
+        let x = TaskSet::OF_TASK * i;
+        self.attributes[x] = period;
+        self.attributes[x + TaskSet::RUNNING] = running;
+        self.attributes[x + TaskSet::OFFSET] = offset;
+        self.attributes[x + TaskSet::DEADLINE] = deadline;
         self.tasks = i + 1;
         self
     }
@@ -125,9 +168,10 @@ impl TaskSet {
         if TaskSet::MOST_PATTERNS <= k {
             return self;
         }
-        self.from[k] = from;
-        self.to[k] = to;
-        self.pairs[k] = 0;
+        let x = TaskSet::OF_PATTERN * k;
+        self.headings[x] = from;
+        self.headings[x + TaskSet::TO] = to;
+        self.headings[x + TaskSet::LENGTH] = 0;
         self.patterns = k + 1;
         self
     }
@@ -143,41 +187,42 @@ impl TaskSet {
         if TaskSet::MOST_PATTERNS < n {
             return self;
         }
-        let pairs = self.pairs;
-        let x = pairs_in(&pairs, n);
-        if TaskSet::MOST_PAIRS <= x {
+        let headings = self.headings;
+        let used = pairs_in(&headings, n);
+        if TaskSet::MOST_PAIRS <= used {
             return self;
         }
-        let k = n - 1;
-        self.pairs[k] = pairs[k] + 1;
-        self.first[x] = a;
-        self.second[x] = b;
+        let k = TaskSet::OF_PATTERN * (n - 1) + TaskSet::LENGTH;
+        self.headings[k] = headings[k] + 1;
+        let x = TaskSet::OF_PAIR * used;
+        self.pairs[x] = a;
+        self.pairs[x + 1] = b;
         self
     }
 }
 
 // A cast that hands out the number's bound, which an entry of a table comes without.
-fn wide(x: u32) -> usize
+pub fn wide(x: u32) -> usize
     ensures { λ r. ⌜ (r ≡ x) × (r < 4294967296) ⌝ }
 {
     x as usize
 }
 
-fn wide16(x: u16) -> u32
+pub fn wide16(x: u16) -> u32
     ensures { λ r. ⌜ (r ≡ x) × (r < 65536) ⌝ }
 {
     x as u32
 }
 
 // The pairs of the first n patterns.
-fn pairs_in(pairs: &[u32; 64], n: usize) -> usize
+fn pairs_in(headings: &Headings, n: usize) -> usize
     requires { ⌜ n ≤ 64 ⌝ }
-    ensures { λ r. ⌜ r ≡ pairsIn (now (pairs .entry)) n ⌝ }
+    ensures { λ r. ⌜ r ≡ pairsIn (now (headings .entry)) n ⌝ }
 {
     let mut total: usize = 0;
     let mut k: usize = 0;
     while k < n {
-        total += wide(pairs[k]);
+        total += wide(headings[TaskSet::OF_PATTERN * k + TaskSet::LENGTH]);
         k += 1;
     }
     total
@@ -219,14 +264,14 @@ pub fn common_multiple(a: u32, b: u32) -> u32
 }
 
 // The common multiple of the first n periods; 0 where one is no period, or where it is over the longest cycle.
-fn ticks_of(period: &[u32; 64], n: usize) -> u32
+fn ticks_of(attributes: &Attributes, n: usize) -> u32
     requires { ⌜ n ≤ 64 ⌝ }
-    ensures { λ r. ⌜ r ≡ ticksOf (now (period .entry)) n ⌝ }
+    ensures { λ r. ⌜ r ≡ ticksOf (tasksOf n (now (attributes .entry))) ⌝ }
 {
     let mut h: u32 = 1;
     let mut i: usize = 0;
     while i < n {
-        h = common_multiple(h, period[i]);
+        h = common_multiple(h, attributes[TaskSet::OF_TASK * i]);
         if h == 0 {
             return 0;
         }
@@ -239,31 +284,31 @@ fn ticks_of(period: &[u32; 64], n: usize) -> u32
 }
 
 // The jobs that n tasks have in h ticks.
-fn jobs_in(period: &[u32; 64], n: usize, h: u32) -> u32
-    requires { ⌜ (n ≤ 64) × (h ≤ 6000) × ((i : ℕ) → i < n → 0 < getD (now period) i 0) ⌝ }
-    ensures { λ r. ⌜ r ≡ total (λ i. h / getD (now (period .entry)) i 0) n ⌝ }
+fn jobs_in(attributes: &Attributes, n: usize, h: u32) -> u32
+    requires { ⌜ (n ≤ 64) × (h ≤ 6000) × ((i : ℕ) → i < n → 0 < period (tasksOf n (now attributes)) i) ⌝ }
+    ensures { λ r. ⌜ r ≡ total (λ i. h / period (tasksOf n (now (attributes .entry))) i) n ⌝ }
 {
     let mut total: u32 = 0;
     let mut i: usize = 0;
     while i < n {
-        total += h / period[i];
+        total += h / attributes[TaskSet::OF_TASK * i];
         i += 1;
     }
     total
 }
 
 // The cycle of the first n periods, with its jobs, where it keeps rule 5; else 0 for both.
-pub fn cycle_of(period: &[u32; 64], n: usize) -> Cycle
-    ensures { λ r. ⌜ r ≡ cycleOf (now (period .entry)) n ⌝ }
+pub fn cycle_of(attributes: &Attributes, n: usize) -> Cycle
+    ensures { λ r. ⌜ r ≡ cycleOf (tasksOf n (now (attributes .entry))) ⌝ }
 {
     if TaskSet::MOST_TASKS < n {
         return Cycle { ticks: 0, jobs: 0 };
     }
-    let h = ticks_of(period, n);
+    let h = ticks_of(attributes, n);
     if h == 0 {
         return Cycle { ticks: 0, jobs: 0 };
     }
-    let jobs = jobs_in(period, n, h);
+    let jobs = jobs_in(attributes, n, h);
     if Cycle::MOST_JOBS < jobs {
         return Cycle { ticks: 0, jobs: 0 };
     }
@@ -316,35 +361,86 @@ fn opening_fits(edition: u32, tasks: usize, processors: u32) -> bool
 }
 
 // T, C, O and D are in their ranges.
-fn attributes_fit(t: u32, c: u32, o: u32, d: u32) -> bool
-    ensures { λ b. ⌜ b ≡ attributesFit t c o d ⌝ }
+fn attributes_fit(t: Task) -> bool
+    ensures { λ b. ⌜ b ≡ attributesFit t ⌝ }
 {
-    if !is_within(t, 1, 6001) {
+    if !is_within(t.period, 1, 6001) {
         return false;
     }
-    if !is_within(c, 1, t + 1) {
+    if !is_within(t.running, 1, t.period + 1) {
         return false;
     }
-    if !is_within(o, 0, t) {
+    if !is_within(t.offset, 0, t.period) {
         return false;
     }
-    is_within(d, c, t + 1)
+    is_within(t.deadline, t.running, t.period + 1)
 }
 
-// The first n tasks are in their ranges. The tables have one lifetime, so that the fields of one set can be lent together.
-fn tasks_fit<'a>(
-    period: &'a [u32; 64],
-    running: &'a [u32; 64],
-    offset: &'a [u32; 64],
-    deadline: &'a [u32; 64],
-    n: usize,
-) -> bool
+// Task i, from the attributes; all 0 past the last place.
+pub fn task_at(attributes: &Attributes, i: usize) -> Task
+    ensures { λ r. ⌜ r ≡ taskIn (now (attributes .entry)) i ⌝ }
+{
+    if TaskSet::MOST_TASKS <= i {
+        return Task {
+            period: 0,
+            running: 0,
+            offset: 0,
+            deadline: 0,
+        };
+    }
+    let x = TaskSet::OF_TASK * i;
+    Task {
+        period: attributes[x],
+        running: attributes[x + TaskSet::RUNNING],
+        offset: attributes[x + TaskSet::OFFSET],
+        deadline: attributes[x + TaskSet::DEADLINE],
+    }
+}
+
+// Pattern k, from the headings; all 0 past the last place.
+pub fn pattern_at(headings: &Headings, k: usize) -> Pattern
+    ensures { λ r. ⌜ r ≡ patternIn (now (headings .entry)) k ⌝ }
+{
+    if TaskSet::MOST_PATTERNS <= k {
+        return Pattern {
+            from: 0,
+            to: 0,
+            pairs: 0,
+        };
+    }
+    let x = TaskSet::OF_PATTERN * k;
+    Pattern {
+        from: headings[x],
+        to: headings[x + TaskSet::TO],
+        pairs: headings[x + TaskSet::LENGTH],
+    }
+}
+
+// Pair x of all patterns; both 0 past the last place.
+pub fn pair_at(pairs: &Pairs, x: usize) -> Pair
+    ensures { λ r. ⌜ (r ≡ pairIn (now (pairs .entry)) x) × (r .first < 65536) × (r .second < 65536) ⌝ }
+{
+    if TaskSet::MOST_PAIRS <= x {
+        return Pair {
+            first: 0,
+            second: 0,
+        };
+    }
+    let at = TaskSet::OF_PAIR * x;
+    Pair {
+        first: wide16(pairs[at]),
+        second: wide16(pairs[at + 1]),
+    }
+}
+
+// The first n tasks are in their ranges.
+fn tasks_fit(attributes: &Attributes, n: usize) -> bool
     requires { ⌜ n ≤ 64 ⌝ }
-    ensures { λ b. ⌜ b ≡ all (taskFits (tasksOf n (now (period .entry)) (now (running .entry)) (now (offset .entry)) (now (deadline .entry)))) n ⌝ }
+    ensures { λ b. ⌜ b ≡ all (taskFits (tasksOf n (now (attributes .entry)))) n ⌝ }
 {
     let mut i: usize = 0;
     while i < n {
-        if !attributes_fit(period[i], running[i], offset[i], deadline[i]) {
+        if !attributes_fit(task_at(attributes, i)) {
             return false;
         }
         i += 1;
@@ -370,16 +466,9 @@ fn is_rising(low: Key, limit_a: u32, limit_b: u32, x: u32, y: u32) -> bool
 }
 
 // The n pairs from a place on are in their ranges and in order.
-fn pairs_fit(
-    first: &[u16; 1024],
-    second: &[u16; 1024],
-    start: usize,
-    n: usize,
-    limit_a: u32,
-    limit_b: u32,
-) -> bool
+fn pairs_fit(pairs: &Pairs, start: usize, n: usize, limit_a: u32, limit_b: u32) -> bool
     requires { ⌜ start + n ≤ 1024 ⌝ }
-    ensures { λ b. ⌜ b ≡ all (pairFits (now (first .entry)) (now (second .entry)) start «limit_a» «limit_b») n ⌝ }
+    ensures { λ b. ⌜ b ≡ all (pairFits (now (pairs .entry)) start «limit_a» «limit_b») n ⌝ }
 {
     let mut low = Key {
         first: 0,
@@ -387,8 +476,9 @@ fn pairs_fit(
     };
     let mut q: usize = 0;
     while q < n {
-        let a = wide16(first[start + q]);
-        let b = wide16(second[start + q]);
+        let x = TaskSet::OF_PAIR * (start + q);
+        let a = wide16(pairs[x]);
+        let b = wide16(pairs[x + 1]);
         if !is_rising(low, limit_a, limit_b, a, b) {
             return false;
         }
@@ -418,21 +508,18 @@ fn heading_fits(tasks: u32, low: Key, x: u32, y: u32, pairs: u32, used: usize) -
     used + wide(pairs) <= TaskSet::MOST_PAIRS
 }
 
-// The patterns with their pairs keep rule 6, and how many links they make.
+// The patterns with their pairs keep rule 6, and how many links they make. The tables have one lifetime, so that the fields of one set can be lent together.
 fn patterns_fit<'a>(
     edition: u32,
     tasks: u32,
     h: u32,
-    period: &'a [u32; 64],
     n: usize,
-    from: &'a [u32; 64],
-    to: &'a [u32; 64],
-    pairs: &'a [u32; 64],
-    first: &'a [u16; 1024],
-    second: &'a [u16; 1024],
+    attributes: &'a Attributes,
+    headings: &'a Headings,
+    pairs: &'a Pairs,
 ) -> Tested
-    requires { ⌜ PatternsAsked (onlyPeriods (now period) tasks) (patternsOf n (now from) (now to) (now pairs) (now first) (now second)) h ⌝ }
-    ensures { λ r. ⌜ PatternsTested edition (onlyPeriods (now (period .entry)) tasks) (patternsOf n (now (from .entry)) (now (to .entry)) (now (pairs .entry)) (now (first .entry)) (now (second .entry))) r ⌝ }
+    requires { ⌜ PatternsAsked (tasksOf tasks (now attributes)) (patternsOf n (now headings) (now pairs)) h ⌝ }
+    ensures { λ r. ⌜ PatternsTested edition (tasksOf tasks (now (attributes .entry))) (patternsOf n (now (headings .entry)) (now (pairs .entry))) r ⌝ }
 {
     let mut low = Key {
         first: 0,
@@ -442,18 +529,23 @@ fn patterns_fit<'a>(
     let mut links: u64 = 0;
     let mut k: usize = 0;
     while k < n {
-        let x = from[k];
-        let y = to[k];
-        let c = pairs[k];
+        let at = TaskSet::OF_PATTERN * k;
+        let x = headings[at];
+        let y = headings[at + TaskSet::TO];
+        let c = headings[at + TaskSet::LENGTH];
         if !heading_fits(tasks, low, x, y, c, used) {
             return Tested {
                 fits: false,
                 links: 0,
             };
         }
-        let s = spans_of(edition, period[wide(x)], period[wide(y)]);
+        let s = spans_of(
+            edition,
+            attributes[TaskSet::OF_TASK * wide(x)],
+            attributes[TaskSet::OF_TASK * wide(y)],
+        );
         let m = wide(c);
-        if !pairs_fit(first, second, used, m, s.first, s.second) {
+        if !pairs_fit(pairs, used, m, s.first, s.second) {
             return Tested {
                 fits: false,
                 links: 0,
@@ -470,39 +562,63 @@ fn patterns_fit<'a>(
     Tested { fits: true, links }
 }
 
-// Rule 10: whether the reader would let this set through.
-pub fn is_sound(set: TaskSet) -> bool
-    ensures { λ b. ⌜ b ≡ sound (view set) ⌝ }
+// The cycle of a set that the reader would let through; 0 ticks for any other.
+fn sound_cycle(set: TaskSet) -> Cycle
+    ensures { λ r. ⌜ r ≡ soundCycle (view set) ⌝ }
 {
+    let none = Cycle { ticks: 0, jobs: 0 };
     let n = set.tasks;
     if !opening_fits(set.edition, n, set.processors) {
-        return false;
+        return none;
     }
-    if !tasks_fit(&set.period, &set.running, &set.offset, &set.deadline, n) {
-        return false;
+    if !tasks_fit(&set.attributes, n) {
+        return none;
     }
-    let cycle = cycle_of(&set.period, n);
+    let cycle = cycle_of(&set.attributes, n);
     if cycle.ticks == 0 {
-        return false;
+        return none;
     }
     let k = set.patterns;
     if TaskSet::MOST_PATTERNS < k {
-        return false;
+        return none;
     }
     let r = patterns_fit(
         set.edition,
         n as u32,
         cycle.ticks,
-        &set.period,
         k,
-        &set.from,
-        &set.to,
+        &set.attributes,
+        &set.headings,
         &set.pairs,
-        &set.first,
-        &set.second,
     );
-    if r.fits {
-        return r.links <= TaskSet::MOST_LINKS;
+    if !r.fits {
+        return none;
     }
-    false
+    if TaskSet::MOST_LINKS < r.links {
+        return none;
+    }
+    cycle
+}
+
+// Rule 10: whether the reader would let this set through.
+pub fn is_sound(set: TaskSet) -> bool
+    ensures { λ b. ⌜ b ≡ sound (view set) ⌝ }
+{
+    let cycle = sound_cycle(set);
+    cycle.ticks != 0
+}
+
+// The numbers of a set that keeps rule 10; 0 ticks and jobs for any other.
+pub fn counts_of(set: TaskSet) -> Counts
+    ensures { λ r. ⌜ r ≡ countsOf (view set) ⌝ }
+{
+    let cycle = sound_cycle(set);
+    Counts {
+        edition: set.edition,
+        processors: set.processors,
+        tasks: set.tasks,
+        patterns: set.patterns,
+        ticks: cycle.ticks,
+        jobs: cycle.jobs,
+    }
 }

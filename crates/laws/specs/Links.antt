@@ -7,7 +7,7 @@ use Rattle.kinds.specs.Tasks.{Set, period, offset, fromTask, toTask, pairFirst,
 use Rattle.kinds.specs.Cycle.{cycle}
 use Rattle.kinds.specs.Jobs.{release}
 use Rattle.kinds.specs.Links.{common, linkFrom, linkTo, repeats}
-use Rattle.kinds.specs.Facts.{Sound}
+use Rattle.kinds.proofs.SoundFacts.{Sound}
 
 -- job a + n * (p / t) of a task with period t, where p divides h
 spread : (o t h p a n : ℕ) → t ∣ p → p ∣ h → o + (a + n * (p / t)) * t ≡ o + (a + n % (h / p) * (p / t)) * t + n / (h / p) * h
@@ -23,14 +23,19 @@ spread o t h p a n d e =
 
 module _ (s : Set) (f : Sound s) (k : ℕ) (lk : k < s .patterns .count) where
   -- the first job of a link, from that of the link of the first cycle that it repeats
-  pub from-again : (q n : ℕ) → release (s .tasks) (fromTask (s .patterns) k) (linkFrom (s .tasks) (s .patterns) k q n) ≡ release (s .tasks) (fromTask (s .patterns) k) (linkFrom (s .tasks) (s .patterns) k q (n % repeats (s .tasks) (s .patterns) k)) + n / repeats (s .tasks) (s .patterns) k * cycle (s .tasks)
+  pub from-again : (q n : ℕ)
+      → release (s .tasks) (fromTask (s .patterns) k) (linkFrom (s .tasks) (s .patterns) k q n)
+      ≡ release (s .tasks) (fromTask (s .patterns) k) (linkFrom (s .tasks) (s .patterns) k q (n % repeats (s .tasks) (s .patterns) k)) + n / repeats (s .tasks) (s .patterns) k * cycle (s .tasks)
   unfolding release linkFrom repeats
   from-again q n =
-      spread (offset (s .tasks) (fromTask (s .patterns) k)) (period (s .tasks) (fromTask (s .patterns) k)) (cycle (s .tasks)) (common (s .tasks) (s .patterns) k)
+      spread (offset (s .tasks) (fromTask (s .patterns) k)) (period (s .tasks) (fromTask (s .patterns) k)) (cycle (s .tasks))
+      (common (s .tasks) (s .patterns) k)
       (pairFirst (s .patterns) k q) n (f .from-divides k lk) (f .whole k lk)
 
   -- and the second
-  pub to-again : (q n : ℕ) → release (s .tasks) (toTask (s .patterns) k) (linkTo (s .tasks) (s .patterns) k q n) ≡ release (s .tasks) (toTask (s .patterns) k) (linkTo (s .tasks) (s .patterns) k q (n % repeats (s .tasks) (s .patterns) k)) + n / repeats (s .tasks) (s .patterns) k * cycle (s .tasks)
+  pub to-again : (q n : ℕ)
+      → release (s .tasks) (toTask (s .patterns) k) (linkTo (s .tasks) (s .patterns) k q n)
+      ≡ release (s .tasks) (toTask (s .patterns) k) (linkTo (s .tasks) (s .patterns) k q (n % repeats (s .tasks) (s .patterns) k)) + n / repeats (s .tasks) (s .patterns) k * cycle (s .tasks)
   unfolding release linkTo repeats
   to-again q n =
       spread (offset (s .tasks) (toTask (s .patterns) k)) (period (s .tasks) (toTask (s .patterns) k)) (cycle (s .tasks)) (common (s .tasks) (s .patterns) k)

@@ -15,7 +15,7 @@ use Rattle.kinds.specs.Tasks.{Tasks, Set, period, fromTask, toTask, pairCount, 
 use Rattle.kinds.specs.Cycle.{cycle, jobsOf, jobsBefore, jobs}
 use Rattle.kinds.specs.Jobs.{numberOfJob, taskOfJob, jobOfJob}
 use Rattle.kinds.specs.Links.{common, linkFrom, linkTo, repeats}
-use Rattle.kinds.specs.Facts.{Sound}
+use Rattle.kinds.proofs.SoundFacts.{Sound}
 
 before-none : (u : Tasks) → jobsBefore u 0 ≡ 0
 unfolding jobsBefore
@@ -46,7 +46,8 @@ module _ (u : Tasks) (i k : ℕ) (li : i < u .count) (lk : k < jobsOf u i) where
 
   pub job-of-number : jobOfJob u (numberOfJob u i k) ≡ k
   unfolding jobOfJob
-  job-of-number = let e : jobsBefore u (taskOfJob u (numberOfJob u i k)) ≡ jobsBefore u i = ap (jobsBefore u) task-of-number in omega (arith, e, number-sum u i k)
+  job-of-number =
+      let e : jobsBefore u (taskOfJob u (numberOfJob u i k)) ≡ jobsBefore u i = ap (jobsBefore u) task-of-number in omega (arith, e, number-sum u i k)
 
   pub number-low : numberOfJob u i k < jobs u
   unfolding numberOfJob jobs
@@ -86,7 +87,8 @@ job-low h p t a n pt dt dp la ln =
       div-mul-cancel p dp,
     ))
 
-module _ (s : Set) (f : Sound s) (k q n : ℕ) (lk : k < s .patterns .count) (lq : q < pairCount (s .patterns) k) (ln : n < repeats (s .tasks) (s .patterns) k) where
+module _ (s : Set) (f : Sound s) (k q n : ℕ) (lk : k < s .patterns .count) (lq : q < pairCount (s .patterns) k)
+    (ln : n < repeats (s .tasks) (s .patterns) k) where
   -- the jobs of a link that is counted in a cycle are jobs of that cycle
   pub from-job-low : linkFrom (s .tasks) (s .patterns) k q n < jobsOf (s .tasks) (fromTask (s .patterns) k)
   unfolding linkFrom jobsOf repeats

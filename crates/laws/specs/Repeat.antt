@@ -14,7 +14,7 @@ use Rattle.kinds.specs.Tasks.{Tasks, Set, period, offset, deadline}
 use Rattle.kinds.specs.Cycle.{cycle, jobsOf}
 use Rattle.kinds.specs.Jobs.{release}
 use Rattle.kinds.specs.Plans.{Plan, slot, shows, shown, awake, runs, ticks}
-use Rattle.kinds.specs.Facts.{Sound, some-jobs}
+use Rattle.kinds.proofs.SoundFacts.{Sound, some-jobs}
 
 -- ---- slots
 pub slot-again : (p : Plan) (t c q : ℕ) → slot p (t + c * p .cycle) q ≡ slot p t q
@@ -64,7 +64,8 @@ release-again u i k d =
     omega (arith, ap (λ (x : ℕ). x * period u i) (div-add-mod' k n), ap (λ (x : ℕ). k / n * x) (div-mul-cancel (period u i) d))
 
 -- what runs past a release runs past the release that it repeats
-pub runs-shift : (u : Tasks) (p : Plan) (i k l c d : ℕ) → release u i k ≡ release u i l + c * p .cycle → runs u p i (release u i k + d) ≡ runs u p i (release u i l + d)
+pub runs-shift : (u : Tasks) (p : Plan) (i k l c d : ℕ) → release u i k ≡ release u i l + c * p .cycle
+    → runs u p i (release u i k + d) ≡ runs u p i (release u i l + d)
 runs-shift u p i k l c d e =
     runs-awake u p i (release u i k + d) (release-awake u i k d)
     ∙ ap (shown p i) (let g : release u i k + d ≡ release u i l + d + c * p .cycle = omega arith in g)
@@ -80,12 +81,14 @@ ticks-again u p i k h d =
     count-same (runs u p i) (runs u p i) (release u i k) (release u i (k % n)) (deadline u i) (λ t l. runs-shift u p i k (k % n) (k / n) t e)
 
 -- jobs of one cycle get c ticks each: so does every job
-pub every-job : (s : Set) → Sound s → (p : Plan) (i c : ℕ) → p .cycle ≡ cycle (s .tasks) → i < s .tasks .count → ((k : ℕ) → k < jobsOf (s .tasks) i → ticks (s .tasks) p i k ≡ c) → (k : ℕ) → ticks (s .tasks) p i k ≡ c
+pub every-job : (s : Set) → Sound s → (p : Plan) (i c : ℕ) → p .cycle ≡ cycle (s .tasks) → i < s .tasks .count
+    → ((k : ℕ) → k < jobsOf (s .tasks) i → ticks (s .tasks) p i k ≡ c) → (k : ℕ) → ticks (s .tasks) p i k ≡ c
 every-job s f p i c h l all k =
     ticks-again (s .tasks) p i k h (f .divides i l) ∙ all (k % jobsOf (s .tasks) i) (mod-lt k (some-jobs s f i l))
 
 -- the slot tick of a time says how far the time is past a release
-pub past-release : (s : Set) → Sound s → (i k d : ℕ) → i < s .tasks .count → d < period (s .tasks) i → ((release (s .tasks) i k + d) % cycle (s .tasks) + cycle (s .tasks) - offset (s .tasks) i) % period (s .tasks) i ≡ d
+pub past-release : (s : Set) → Sound s → (i k d : ℕ) → i < s .tasks .count → d < period (s .tasks) i
+    → ((release (s .tasks) i k + d) % cycle (s .tasks) + cycle (s .tasks) - offset (s .tasks) i) % period (s .tasks) i ≡ d
 unfolding release
 past-release s f i k d l ld =
     since (period (s .tasks) i) (offset (s .tasks) i) (cycle (s .tasks)) k d (f .divides i l) (f .offset-low i l)

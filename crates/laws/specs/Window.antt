@@ -105,7 +105,9 @@ time-mod h o x ph l a b = go (lt-or-le x h)
     go : (x < h) ⊎ (h ≤ x) → timeOf h o (x % h) ≡ x
     go (inl q) = rw (mod-eq-of-lt q) (time-awake h o x a)
     go (inr q) =
-        let e : x % h ≡ x - h = ap (λ (u : ℕ). u % h) (let z : x ≡ x - h + h = omega arith in z) ∙ add-mod-right (x - h) h ∙ mod-eq-of-lt (let z : x - h < h = omega arith in z) in
+        let e : x % h ≡ x - h =
+        ap (λ (u : ℕ). u % h) (let z : x ≡ x - h + h = omega arith in z) ∙ add-mod-right (x - h) h ∙ mod-eq-of-lt
+        (let z : x - h < h = omega arith in z) in
         rw e (time-asleep h o (x - h) (omega arith) ∙ omega arith)
 
 -- a cycle's ticks, from tick 0 or from o on

@@ -1,9 +1,9 @@
 // A file and a place in it as one thing, so that a place is never used on another file: thin functions over the reader.
 ghost use mathlib.Core.Path.{_≡_};
-ghost use Rattle.reader.specs.Numbers.{numberAt};
+ghost use Rattle.numbers.specs.Numbers.{numberAt};
 ghost use Rattle.reader.specs.Files.{readOf};
+use numbers::Number;
 use reader::Loaded;
-use reader::Number;
 
 pub struct Place<'a> {
     src: &'a [u8],
@@ -28,7 +28,7 @@ pub fn moved<'a>(r: Place<'a>, at: usize) -> Place<'a>
 pub fn number<'a>(r: Place<'a>) -> Number
     ensures { λ s. ⌜ s ≡ numberAt (now (r .entry .src)) (r .entry .at) ⌝ }
 {
-    reader::read_number(r.src, r.at)
+    numbers::read_number(r.src, r.at)
 }
 
 // The plan of a file, whatever the place in it.

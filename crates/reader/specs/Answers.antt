@@ -1,10 +1,10 @@
 -- Document 01's number and evidence for each answer of the reader.
 use mathlib.Core.List.{List, [], _∷_}
 use Prim.Native.Nat.{ℕ}
-use Rattle.reader.specs.declared.Refusal.{Refusal}
-use Rattle.reader.specs.declared.Refusal.the-variants as refusal
-use Rattle.reader.specs.declared.Outcome.{Outcome}
-use Rattle.reader.specs.declared.Outcome.the-variants as outcome
+use Rattle.numbers.specs.declared.Refusal.{Refusal}
+use Rattle.numbers.specs.declared.Refusal.the-variants as refusal
+use Rattle.heads.specs.declared.Outcome.{Outcome}
+use Rattle.heads.specs.declared.Outcome.the-variants as outcome
 
 -- "1: the file ends inside or before a needed number or slot", "2: a number isn't shortest, or its third byte has the top bit", "3: edition unknown",
 -- "4: task count, m, an attribute or the pattern count outside the limits; pair count carries the total past 1,024", "5: H over 6,000 or over 2,048

@@ -1,14 +1,2 @@
 pub mod Answers
-pub mod Numbers
-pub mod Tables
 pub mod Files
-pub mod Bytes
-pub mod Through
-pub mod Bounds
-pub mod Turns
-pub mod Went
-pub mod Filled
-pub mod Keeps
-pub mod Done
-pub mod HeadLaws
-pub mod ReadLaws

@@ -1,4 +1,5 @@
 -- Document 01's number and evidence for each finding, and for each answer of the call for adjusted times.
+use mathlib.Core.Bool.{Bool, true, false}
 use mathlib.Core.List.{List, [], _∷_}
 use Prim.Native.Nat.{ℕ}
 use Rattle.screen.specs.declared.Finding.{Finding}
@@ -34,3 +35,10 @@ adjustedEvidence adjusted.Written = []
 adjustedEvidence adjusted.BadSet = []
 adjustedEvidence adjusted.WrongLength = []
 adjustedEvidence (adjusted.Cycle i k) = i ∷ k ∷ []
+
+-- whether an answer writes the buffers
+abbrev pub written : Adjusted → Bool
+written adjusted.Written = true
+written adjusted.BadSet = false
+written adjusted.WrongLength = false
+written (adjusted.Cycle i k) = false

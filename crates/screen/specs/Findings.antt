@@ -1,13 +1,14 @@
 -- What the screen and the call for adjusted times answer, for every input.
 use mathlib.Core.Bool.{Bool, _||_, not}
-use mathlib.Core.List.{List}
+use mathlib.Core.List.{List, [], _∷_}
 use Prim.Native.Nat.{ℕ, _+_, _*_}
 use lib.Dec.{eqb, ltb}
 use lib.IntN.{ℤ, pos}
 use lib.Signed.{ltZ}
 use lib.ListN.{length}
 use Rattle.vocabulary.specs.Test.{pick}
-use Rattle.vocabulary.specs.Least.{least, some}
+use Rattle.vocabulary.specs.Least.{least}
+use Rattle.vocabulary.specs.First.{Rule, rule, firstOf}
 use Rattle.vocabulary.specs.Total.{total}
 use Rattle.vocabulary.specs.Table.{table}
 use Rattle.graph.specs.Graph.{loops}
@@ -19,6 +20,7 @@ use Rattle.screen.specs.declared.Finding.{Finding}
 use Rattle.screen.specs.declared.Finding.the-variants as finding
 use Rattle.screen.specs.declared.Adjusted.{Adjusted}
 use Rattle.screen.specs.declared.Adjusted.the-variants as adjusted
+use Rattle.screen.specs.Answers.{written}
 use Rattle.screen.specs.Network.{network}
 use Rattle.screen.specs.Times.{ownRunning, adjustedRelease, adjustedDeadline}
 
@@ -37,41 +39,51 @@ room s = s .processors * cycle (s .tasks)
 unfoldable pub tight : Tasks → Patterns → ℕ → Bool
 tight u v x = ltZ (adjustedDeadline u v x) (pos (adjustedRelease u v x + ownRunning u x))
 
--- "Screen: 10, 13, 14, 15, else no finding."
-unfoldable pub findingOf : Set → Finding
-findingOf s =
-    let u : Tasks = s .tasks in
-    let v : Patterns = s .patterns in
-    let n : ℕ = jobs u in
-    let x : ℕ = least (onCycle u v) n in
-    let y : ℕ = least (tight u v) n in
-    pick (not (sound s)) finding.BadSet
-    (pick (some (onCycle u v) n) (finding.Cycle (taskOfJob u x) (jobOfJob u x))
-    (pick (ltb (room s) (load u)) (finding.Overload (load u) (room s))
-    (pick (some (tight u v) n) (finding.TooTight (taskOfJob u y) (jobOfJob u y))
-    finding.Nothing)))
+-- "Lowest means by task, then job": the lowest job on a cycle, and the lowest tight one; as many as there are jobs where there is none
+abbrev pub lowestCycle : Set → ℕ
+lowestCycle s = least (onCycle (s .tasks) (s .patterns)) (jobs (s .tasks))
 
--- ---- "Adjusted times: 10, 11, 13." "into two lent buffers of signed 32-bit numbers, each of exactly that length"; a refusal writes neither. Here p and q
--- are the lengths of the two buffers.
-unfoldable pub byCases : {A : Type 0} → Set → ℕ → ℕ → (Adjusted → A) → A → A
-byCases s p q refuse write =
+abbrev pub lowestTight : Set → ℕ
+lowestTight s = least (tight (s .tasks) (s .patterns)) (jobs (s .tasks))
+
+-- "Screen: 10, 13, 14, 15, else no finding."
+unfoldable pub screenRules : Set → List (Rule Finding)
+screenRules s =
     let u : Tasks = s .tasks in
-    let v : Patterns = s .patterns in
-    let n : ℕ = jobs u in
-    let x : ℕ = least (onCycle u v) n in
-    pick (not (sound s)) (refuse adjusted.BadSet)
-    (pick (not (eqb p n) || not (eqb q n)) (refuse adjusted.WrongLength)
-    (pick (some (onCycle u v) n) (refuse (adjusted.Cycle (taskOfJob u x) (jobOfJob u x)))
-    write))
+    let x : ℕ = lowestCycle s in
+    let y : ℕ = lowestTight s in
+    rule 10 (not (sound s)) finding.BadSet
+    ∷ rule 13 (ltb x (jobs u)) (finding.Cycle (taskOfJob u x) (jobOfJob u x))
+    ∷ rule 14 (ltb (room s) (load u)) (finding.Overload (load u) (room s))
+    ∷ rule 15 (ltb y (jobs u)) (finding.TooTight (taskOfJob u y) (jobOfJob u y))
+    ∷ []
+
+unfoldable pub findingOf : Set → Finding
+findingOf s = firstOf (screenRules s) finding.Nothing
+
+-- ---- "Adjusted times: 10, 11, 13." Here p and q are the lengths of the two buffers, "each of exactly that length".
+unfoldable pub adjustRules : Set → ℕ → ℕ → List (Rule Adjusted)
+adjustRules s p q =
+    let u : Tasks = s .tasks in
+    let x : ℕ = lowestCycle s in
+    rule 10 (not (sound s)) adjusted.BadSet
+    ∷ rule 11 (not (eqb p (jobs u)) || not (eqb q (jobs u))) adjusted.WrongLength
+    ∷ rule 13 (ltb x (jobs u)) (adjusted.Cycle (taskOfJob u x) (jobOfJob u x))
+    ∷ []
 
 unfoldable pub adjustedOf : Set → ℕ → ℕ → Adjusted
-adjustedOf s p q = byCases s p q (λ a. a) adjusted.Written
+adjustedOf s p q = firstOf (adjustRules s p q) adjusted.Written
 
--- "Per job of one cycle, ordered by task, then job": what the two buffers hold afterwards
+-- "Per job of one cycle, ordered by task, then job", "into two lent buffers of signed 32-bit numbers"
+abbrev pub releasesOf : Set → List ℤ
+releasesOf s = table (λ x. pos (adjustedRelease (s .tasks) (s .patterns) x)) (jobs (s .tasks))
+
+abbrev pub deadlinesOf : Set → List ℤ
+deadlinesOf s = table (adjustedDeadline (s .tasks) (s .patterns)) (jobs (s .tasks))
+
+-- what the two buffers hold afterwards; a refusal writes neither
 unfoldable pub releasesLeft : Set → List ℤ → List ℤ → List ℤ
-releasesLeft s releases deadlines =
-    byCases s (length releases) (length deadlines) (λ a. releases) (table (λ x. pos (adjustedRelease (s .tasks) (s .patterns) x)) (jobs (s .tasks)))
+releasesLeft s releases deadlines = pick (written (adjustedOf s (length releases) (length deadlines))) (releasesOf s) releases
 
 unfoldable pub deadlinesLeft : Set → List ℤ → List ℤ → List ℤ
-deadlinesLeft s releases deadlines =
-    byCases s (length releases) (length deadlines) (λ a. deadlines) (table (adjustedDeadline (s .tasks) (s .patterns)) (jobs (s .tasks)))
+deadlinesLeft s releases deadlines = pick (written (adjustedOf s (length releases) (length deadlines))) (deadlinesOf s) deadlines

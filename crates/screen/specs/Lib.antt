@@ -5,9 +5,11 @@ pub mod Findings
 pub mod NetworkLaws
 pub mod Order
 pub mod TimesLaws
-pub mod Spread
-pub mod Timed
-pub mod Signs
-pub mod Written
+pub mod Tables
+pub mod Placed
+pub mod LinkLists
+pub mod JobTimes
 pub mod Named
+pub mod Written
 pub mod Outcome
+pub mod Heads

@@ -10,22 +10,24 @@ use Rattle.vocabulary.specs.Test.{both}
 use Rattle.vocabulary.specs.Total.{total-same}
 use Rattle.vocabulary.specs.Table.{table, gather-all, length-table, getD-table}
 use Rattle.vocabulary.specs.Lists.{each-join, each-gather, length-join, length-join-even, Stands, stands-join, stands-gather}
-use Rattle.graph.specs.Graph.{Inside}
+use Rattle.graph.specs.Graph.{LinksInside}
 use Rattle.kinds.specs.Tasks.{Tasks, Patterns, Set, fromTask, toTask, pairCount}
 use Rattle.kinds.specs.Cycle.{jobs, jobsOf}
 use Rattle.kinds.specs.Jobs.{numberOfJob}
 use Rattle.kinds.specs.Links.{linkFrom, linkTo, repeats, linksOf, links, inner}
-use Rattle.kinds.specs.Facts.{Sound}
+use Rattle.kinds.proofs.SoundFacts.{Sound}
 use Rattle.laws.specs.Order.{number-low, from-job-low, to-job-low}
 use Rattle.screen.specs.Network.{Link, noLink, linkOf, pairLinks, patternLinks, cycleLinks, linkStarts, linkEnds, network}
 
 -- ---- every link of a cycle lies within one block of H, so a pair makes all its links
 module _ (s : Set) (f : Sound s) where
-  pub all-inner : (k q n : ℕ) → k < s .patterns .count → q < pairCount (s .patterns) k → n < repeats (s .tasks) (s .patterns) k → inner (s .tasks) (s .patterns) k q n ≡ true
+  pub all-inner : (k q n : ℕ) → k < s .patterns .count → q < pairCount (s .patterns) k → n < repeats (s .tasks) (s .patterns) k
+      → inner (s .tasks) (s .patterns) k q n ≡ true
   unfolding inner
   all-inner k q n lk lq ln = rw (lt-ltb _ _ (from-job-low s f k q n lk lq ln), lt-ltb _ _ (to-job-low s f k q n lk lq ln))
 
-  pub pair-links : (k q : ℕ) → k < s .patterns .count → q < pairCount (s .patterns) k → pairLinks (s .tasks) (s .patterns) k q ≡ table (linkOf (s .tasks) (s .patterns) k q) (repeats (s .tasks) (s .patterns) k)
+  pub pair-links : (k q : ℕ) → k < s .patterns .count → q < pairCount (s .patterns) k
+      → pairLinks (s .tasks) (s .patterns) k q ≡ table (linkOf (s .tasks) (s .patterns) k q) (repeats (s .tasks) (s .patterns) k)
   unfolding pairLinks
   pair-links k q lk lq =
       gather-all (linkOf (s .tasks) (s .patterns) k q) (inner (s .tasks) (s .patterns) k q) (repeats (s .tasks) (s .patterns) k)
@@ -46,7 +48,9 @@ module _ (s : Set) (f : Sound s) where
 
 -- ---- where a link comes from
 -- a fact of every link, from every pair's
-pub each-link : (u : Tasks) (v : Patterns) (P : Link → Type 0) → ((k q n : ℕ) → k < v .count → q < pairCount v k → n < repeats u v k → inner u v k q n ≡ true → P (linkOf u v k q n)) → (x : ℕ) → x < length (cycleLinks u v) → P (getD (cycleLinks u v) x noLink)
+pub each-link : (u : Tasks) (v : Patterns) (P : Link → Type 0)
+    → ((k q n : ℕ) → k < v .count → q < pairCount v k → n < repeats u v k → inner u v k q n ≡ true → P (linkOf u v k q n)) → (x : ℕ)
+    → x < length (cycleLinks u v) → P (getD (cycleLinks u v) x noLink)
 unfolding cycleLinks patternLinks pairLinks
 each-link u v P h =
     each-join P noLink (patternLinks u v) (v .count) (λ k lk.
@@ -85,13 +89,14 @@ each-made u v x l =
     x h)
 
 -- and back: each time that a pair links two jobs of one block, the network has that link
-pub record Linked (u : Tasks) (v : Patterns) (x y : ℕ) : Type 0 where
+pub record LinkedJobs (u : Tasks) (v : Patterns) (x y : ℕ) : Type 0 where
   pub at : ℕ
   pub low : at < network u v .e
   pub from-is : network u v .from at ≡ x
   pub to-is : network u v .to at ≡ y
 
-pub each-linked : (u : Tasks) (v : Patterns) (k q n : ℕ) → k < v .count → q < pairCount v k → n < repeats u v k → inner u v k q n ≡ true → Linked u v (numberOfJob u (fromTask v k) (linkFrom u v k q n)) (numberOfJob u (toTask v k) (linkTo u v k q n))
+pub each-linked : (u : Tasks) (v : Patterns) (k q n : ℕ) → k < v .count → q < pairCount v k → n < repeats u v k → inner u v k q n ≡ true
+    → LinkedJobs u v (numberOfJob u (fromTask v k) (linkFrom u v k q n)) (numberOfJob u (toTask v k) (linkTo u v k q n))
 unfolding network linkStarts linkEnds cycleLinks patternLinks pairLinks
 each-linked u v k q n lk lq ln e =
     let m : ℕ = length (cycleLinks u v) in
@@ -107,13 +112,14 @@ each-linked u v k q n lk lq ln e =
     }
 
 -- ---- the ends of a link are jobs of the cycle
-pub inner-low : (u : Tasks) (v : Patterns) (k q n : ℕ) → inner u v k q n ≡ true → (linkFrom u v k q n < jobsOf u (fromTask v k)) × (linkTo u v k q n < jobsOf u (toTask v k))
+pub inner-low : (u : Tasks) (v : Patterns) (k q n : ℕ) → inner u v k q n ≡ true
+    → (linkFrom u v k q n < jobsOf u (fromTask v k)) × (linkTo u v k q n < jobsOf u (toTask v k))
 unfolding inner
 inner-low u v k q n e =
     let a = both {a = ltb (linkFrom u v k q n) (jobsOf u (fromTask v k))} e in
     (ltb-true (linkFrom u v k q n) (jobsOf u (fromTask v k)) (a .0), ltb-true (linkTo u v k q n) (jobsOf u (toTask v k)) (a .1))
 
-pub inside-network : (s : Set) → Sound s → Inside (network (s .tasks) (s .patterns))
+pub inside-network : (s : Set) → Sound s → LinksInside (network (s .tasks) (s .patterns))
 inside-network s f = record { starts = λ x l. go x l (each-made u v x l) .0; ends = λ x l. go x l (each-made u v x l) .1 }
   where
     u : Tasks
@@ -122,7 +128,8 @@ inside-network s f = record { starts = λ x l. go x l (each-made u v x l) .0; en
     v : Patterns
     v = s .patterns
 
-    go : (x : ℕ) → x < network u v .e → Made u v (network u v .from x) (network u v .to x) → (network u v .from x < network u v .n) × (network u v .to x < network u v .n)
+    go : (x : ℕ) → x < network u v .e → Made u v (network u v .from x) (network u v .to x)
+        → (network u v .from x < network u v .n) × (network u v .to x < network u v .n)
     go x l w =
         let k : ℕ = w .pattern in
         let i = inner-low u v k (w .pair) (w .turn) (w .within) in

@@ -11,7 +11,7 @@ use Rattle.graph.specs.Sub.{flip, soonest-sub}
 use Rattle.kinds.specs.Tasks.{Tasks, Patterns, Set, period}
 use Rattle.kinds.specs.Cycle.{cycle, jobsOf, jobs}
 use Rattle.kinds.specs.Jobs.{release, due, taskOfJob, jobOfJob}
-use Rattle.kinds.specs.Facts.{Sound}
+use Rattle.kinds.proofs.SoundFacts.{Sound}
 use Rattle.laws.specs.Order.{task-low}
 use Rattle.laws.specs.Back.{job-of-low}
 use Rattle.screen.specs.Network.{network}

@@ -1,21 +1,26 @@
 // The screen of task sets, and adjusted releases and deadlines.
 ghost use mathlib.Core.Path.{_≡_};
-ghost use mathlib.Core.Bool.{Bool, true};
 ghost use Prim.Native.Nat.{_<_};
 ghost use lib.ListN.{length, getD};
-ghost use Rattle.vocabulary.specs.Total.{total};
 ghost use Rattle.kinds.specs.Tasks.{view};
-ghost use Rattle.kinds.specs.Cycle.{onlyPeriods};
-ghost use Rattle.kinds.specs.Sound.{sound};
 ghost use Rattle.screen.specs.Answers.{findingNumber, findingEvidence, adjustedNumber, adjustedEvidence};
 ghost use Rattle.screen.specs.Findings.{findingOf, adjustedOf};
-ghost use Rattle.screen.specs.Named.{JobAsked, jobAt, LoadAsked, share};
-ghost use Rattle.screen.specs.Written.{Answered, Writable, written, releasesOf, deadlinesOf};
-ghost use Rattle.screen.specs.Outcome.{Cycled};
+ghost use Rattle.screen.specs.Tables.{tableSet, Numbered};
+ghost use Rattle.screen.specs.Written.{Answered};
+ghost use Rattle.screen.specs.Heads.{screenedOf, adjustedHead, AdjustedBy};
+use heads::Head;
+use kinds::Attributes;
+use kinds::Counts;
+use kinds::Headings;
+use kinds::Pairs;
 use kinds::TaskSet;
 
+mod leaves;
 mod links;
+mod search;
 mod settle;
+mod sums;
+mod tiers;
 mod times;
 
 // Why no plan for a set can be accepted, or that nothing was found.
@@ -54,83 +59,30 @@ struct Job {
     job: u32,
 }
 
-fn wide(x: u32) -> usize
-    ensures { λ r. ⌜ (r ≡ x) × (r < 4294967296) ⌝ }
-{
-    x as usize
+// The lowest job on a cycle and the lowest that is too tight, by their numbers; the number of jobs where there is none.
+struct Found {
+    cycle: usize,
+    tight: usize,
 }
 
-fn wide16(x: u16) -> u32
-    ensures { λ r. ⌜ (r ≡ x) × (r < 65536) ⌝ }
+// Findings 13, 14 and 15 of a sound set in tables.
+fn find_in(f: Counts, attributes: &Attributes, headings: &Headings, pairs: &Pairs) -> Finding
+    requires { ⌜ Numbered f (now attributes) (now headings) (now pairs) ⌝ }
+    ensures { λ r. ⌜ r ≡ findingOf (tableSet f (now (attributes .entry)) (now (headings .entry)) (now (pairs .entry))) ⌝ }
 {
-    x as u32
-}
-
-// The job of a cycle of h ticks that has number x, where n tasks have these periods.
-fn job_at(period: &[u32; 64], n: usize, h: u32, x: usize) -> Job
-    requires { ⌜ JobAsked (onlyPeriods (now period) n) h x ⌝ }
-    ensures { λ r. ⌜ r ≡ jobAt (onlyPeriods (now (period .entry)) n) x ⌝ }
-{
-    let mut y = x;
-    let mut i: usize = 0;
-    while i < n {
-        let k = wide(h / period[i]);
-        if y < k {
-            return Job {
-                task: i as u32,
-                job: y as u32,
-            };
-        }
-        y -= k;
-        i += 1;
-    }
-    Job {
-        task: i as u32,
-        job: y as u32,
-    }
-}
-
-// The sum of C·H/T over the first n tasks.
-fn load_of(period: &[u32; 64], running: &[u32; 64], n: usize, h: u32) -> u32
-    requires { ⌜ LoadAsked h (now period) (now running) n ⌝ }
-    ensures { λ r. ⌜ r ≡ total (share h (now (period .entry)) (now (running .entry))) n ⌝ }
-{
-    let mut sum: u32 = 0;
-    let mut i: usize = 0;
-    while i < n {
-        sum += running[i] * (h / period[i]);
-        i += 1;
-    }
-    sum
-}
-
-// Findings 13, 14 and 15 of a sound set.
-fn find_in(set: TaskSet) -> Finding
-    requires { ⌜ sound (view set) ≡ true ⌝ }
-    ensures { λ r. ⌜ r ≡ findingOf (view set) ⌝ }
-{
-    let period = set.period;
-    let running = set.running;
-    let n = set.tasks;
-    let cycle = kinds::cycle_of(&period, n);
-    let h = cycle.ticks;
-    let jobs = wide(cycle.jobs);
-    let mut from = [0u16; 4096];
-    let mut to = [0u16; 4096];
-    let e = links::of_set(set, h, &mut from, &mut to);
-    let x = settle::lowest_of(&from[..e], &to[..e], jobs);
-    if x < jobs {
-        let j = job_at(&period, n, h, x);
+    let n = kinds::wide(f.jobs);
+    let p = tiers::look(f, attributes, headings, pairs);
+    if p.cycle < n {
+        let j = sums::job_at(f, attributes, p.cycle);
         return Finding::Cycle(j.task, j.job);
     }
-    let load = load_of(&period, &running, n, h);
-    let room = set.processors * h;
+    let load = sums::load_of(f, attributes);
+    let room = f.processors * f.ticks;
     if room < load {
         return Finding::Overload(load, room);
     }
-    let y = times::lowest_tight(set, h, jobs, &from[..e], &to[..e]);
-    if y < jobs {
-        let j = job_at(&period, n, h, y);
+    if p.tight < n {
+        let j = sums::job_at(f, attributes, p.tight);
         return Finding::TooTight(j.task, j.job);
     }
     Finding::Nothing
@@ -140,24 +92,84 @@ fn find_in(set: TaskSet) -> Finding
 pub fn screen(set: TaskSet) -> Finding
     ensures { λ r. ⌜ r ≡ findingOf (view set) ⌝ }
 {
-    if !kinds::is_sound(set) {
+    let f = kinds::counts_of(set);
+    if f.ticks == 0 {
         return Finding::BadSet;
     }
-    find_in(set)
+    let attributes = set.attributes;
+    let headings = set.headings;
+    let pairs = set.pairs;
+    find_in(f, &attributes, &headings, &pairs)
 }
 
-// What the call for adjusted times answers for a sound set of n jobs, where each buffer has n places.
-fn answer_in(set: TaskSet, h: u32, n: usize) -> Adjusted
-    requires { ⌜ Cycled (view set) h n ⌝ }
-    ensures { λ r. ⌜ r ≡ adjustedOf (view set) n n ⌝ }
+// The screen, on tasks as a file's head.
+pub fn screen_head(tasks: &[u8]) -> Finding
+    ensures { λ r. ⌜ r ≡ screenedOf (now (tasks .entry)) ⌝ }
 {
-    let mut from = [0u16; 4096];
-    let mut to = [0u16; 4096];
-    let e = links::of_set(set, h, &mut from, &mut to);
-    let x = settle::lowest_of(&from[..e], &to[..e], n);
+    let mut attributes = [0u32; 256];
+    let mut headings = [0u32; 192];
+    let mut pairs = [0u16; 2048];
+    match heads::read_head(tasks, &mut attributes, &mut headings, &mut pairs) {
+        Head::Refused(_) => Finding::BadSet,
+        Head::Of(f, at) => {
+            if at == tasks.len() {
+                return find_in(f, &attributes, &headings, &pairs);
+            }
+            Finding::BadSet
+        }
+    }
+}
+
+// What the call for adjusted times answers for a sound set in tables, and buffers of these lengths.
+fn adjusted_in(
+    f: Counts,
+    attributes: &Attributes,
+    headings: &Headings,
+    pairs: &Pairs,
+    releases: usize,
+    deadlines: usize,
+) -> Adjusted
+    requires { ⌜ Numbered f (now attributes) (now headings) (now pairs) ⌝ }
+    ensures { λ r. ⌜ r ≡ adjustedOf (tableSet f (now (attributes .entry)) (now (headings .entry)) (now (pairs .entry))) releases deadlines ⌝ }
+{
+    let n = kinds::wide(f.jobs);
+    if releases != n {
+        return Adjusted::WrongLength;
+    }
+    if deadlines != n {
+        return Adjusted::WrongLength;
+    }
+    let p = tiers::look(f, attributes, headings, pairs);
+    if p.cycle < n {
+        let j = sums::job_at(f, attributes, p.cycle);
+        return Adjusted::Cycle(j.task, j.job);
+    }
+    Adjusted::Written
+}
+
+// The same, and the times are written where it is not refused.
+fn adjust_in(
+    f: Counts,
+    attributes: &Attributes,
+    headings: &Headings,
+    pairs: &Pairs,
+    releases: &mut [i32],
+    deadlines: &mut [i32],
+) -> Adjusted
+    requires { ⌜ Numbered f (now attributes) (now headings) (now pairs) ⌝ }
+    ensures { λ r. ⌜ Answered (tableSet f (now (attributes .entry)) (now (headings .entry)) (now (pairs .entry)))
+        (now (releases .entry)) (now (deadlines .entry)) r (now (releases .exit)) (now (deadlines .exit)) ⌝ }
+{
+    let n = kinds::wide(f.jobs);
+    if releases.len() != n {
+        return Adjusted::WrongLength;
+    }
+    if deadlines.len() != n {
+        return Adjusted::WrongLength;
+    }
+    let x = tiers::write_sized(f, attributes, headings, pairs, releases, deadlines);
     if x < n {
-        let period = set.period;
-        let j = job_at(&period, set.tasks, h, x);
+        let j = sums::job_at(f, attributes, x);
         return Adjusted::Cycle(j.task, j.job);
     }
     Adjusted::Written
@@ -167,55 +179,64 @@ fn answer_in(set: TaskSet, h: u32, n: usize) -> Adjusted
 pub fn adjusted_for(set: TaskSet, releases: usize, deadlines: usize) -> Adjusted
     ensures { λ r. ⌜ r ≡ adjustedOf (view set) releases deadlines ⌝ }
 {
-    if !kinds::is_sound(set) {
+    let f = kinds::counts_of(set);
+    if f.ticks == 0 {
         return Adjusted::BadSet;
     }
-    let period = set.period;
-    let cycle = kinds::cycle_of(&period, set.tasks);
-    let n = wide(cycle.jobs);
-    if releases != n {
-        return Adjusted::WrongLength;
-    }
-    if deadlines != n {
-        return Adjusted::WrongLength;
-    }
-    answer_in(set, cycle.ticks, n)
-}
-
-fn is_written(a: Adjusted) -> bool
-    ensures { λ r. ⌜ r ≡ written a ⌝ }
-{
-    match a {
-        Adjusted::Written => true,
-        Adjusted::BadSet => false,
-        Adjusted::WrongLength => false,
-        Adjusted::Cycle(_, _) => false,
-    }
-}
-
-// Adjusted times of a set that is not refused.
-fn write_in(set: TaskSet, releases: &mut [i32], deadlines: &mut [i32])
-    requires { ⌜ Writable (view set) (length (now releases)) (length (now deadlines)) ⌝ }
-    ensures { λ r. ⌜ (now (releases .exit) ≡ releasesOf (view set)) × (now (deadlines .exit) ≡ deadlinesOf (view set)) ⌝ }
-{
-    let period = set.period;
-    let cycle = kinds::cycle_of(&period, set.tasks);
-    let mut from = [0u16; 4096];
-    let mut to = [0u16; 4096];
-    let e = links::of_set(set, cycle.ticks, &mut from, &mut to);
-    times::write_times(set, cycle.ticks, &from[..e], &to[..e], releases, deadlines);
+    let attributes = set.attributes;
+    let headings = set.headings;
+    let pairs = set.pairs;
+    adjusted_in(f, &attributes, &headings, &pairs, releases, deadlines)
 }
 
 // The adjusted release and deadline of each job of one cycle, by task, then job; a refusal, the first of 10, 11 and 13, leaves both buffers as they are.
 pub fn adjust(set: TaskSet, releases: &mut [i32], deadlines: &mut [i32]) -> Adjusted
     ensures { λ r. ⌜ Answered (view set) (now (releases .entry)) (now (deadlines .entry)) r (now (releases .exit)) (now (deadlines .exit)) ⌝ }
 {
-    let a = adjusted_for(set, releases.len(), deadlines.len());
-    if !is_written(a) {
-        return a;
+    let f = kinds::counts_of(set);
+    if f.ticks == 0 {
+        return Adjusted::BadSet;
     }
-    write_in(set, releases, deadlines);
-    a
+    let attributes = set.attributes;
+    let headings = set.headings;
+    let pairs = set.pairs;
+    adjust_in(f, &attributes, &headings, &pairs, releases, deadlines)
+}
+
+// What the call for adjusted times answers, on tasks as a file's head.
+pub fn adjusted_head(tasks: &[u8], releases: usize, deadlines: usize) -> Adjusted
+    ensures { λ r. ⌜ r ≡ adjustedHead (now (tasks .entry)) releases deadlines ⌝ }
+{
+    let mut attributes = [0u32; 256];
+    let mut headings = [0u32; 192];
+    let mut pairs = [0u16; 2048];
+    match heads::read_head(tasks, &mut attributes, &mut headings, &mut pairs) {
+        Head::Refused(_) => Adjusted::BadSet,
+        Head::Of(f, at) => {
+            if at == tasks.len() {
+                return adjusted_in(f, &attributes, &headings, &pairs, releases, deadlines);
+            }
+            Adjusted::BadSet
+        }
+    }
+}
+
+// The call for adjusted times, on tasks as a file's head.
+pub fn adjust_head(tasks: &[u8], releases: &mut [i32], deadlines: &mut [i32]) -> Adjusted
+    ensures { λ r. ⌜ AdjustedBy (λ a. a) (now (tasks .entry)) (now (releases .entry)) (now (deadlines .entry)) r (now (releases .exit)) (now (deadlines .exit)) ⌝ }
+{
+    let mut attributes = [0u32; 256];
+    let mut headings = [0u32; 192];
+    let mut pairs = [0u16; 2048];
+    match heads::read_head(tasks, &mut attributes, &mut headings, &mut pairs) {
+        Head::Refused(_) => Adjusted::BadSet,
+        Head::Of(f, at) => {
+            if at == tasks.len() {
+                return adjust_in(f, &attributes, &headings, &pairs, releases, deadlines);
+            }
+            Adjusted::BadSet
+        }
+    }
 }
 
 // The number of document 01 for a finding: 0, 10, 13, 14 or 15.

@@ -1,117 +1,124 @@
-// The times of a cycle's jobs: own and adjusted releases and deadlines, and the lowest job that is too tight. Deadlines are counted back from tick 12,000, which no own deadline passes, so that rounds of unsigned numbers serve for both times.
+// The times of a cycle's jobs, in a row: own and adjusted ones, and the lowest job that is too tight. Deadlines are counted back from tick 12,000, which no
+// own deadline passes, so that rounds of unsigned numbers serve for both times.
 ghost use mathlib.Core.Path.{_≡_};
-ghost use Prim.Native.Nat.{ℕ, _+_, _*_, _≤_, _<_};
+ghost use mathlib.Core.Bool.{true, false};
+ghost use Prim.Native.Nat.{_≤_};
 ghost use lib.IntN.{pos, subℕ};
-ghost use lib.ListN.{length, getD};
+ghost use lib.ListN.{length};
 ghost use Rattle.vocabulary.specs.Least.{least};
 ghost use Rattle.vocabulary.specs.Table.{table};
-ghost use Rattle.vocabulary.specs.Steps.{Stepped};
 ghost use Rattle.graph.specs.Pass.{limit};
-ghost use Rattle.kinds.specs.Tasks.{tasksOf, view};
 ghost use Rattle.kinds.specs.Cycle.{jobs};
-ghost use Rattle.screen.specs.Timed.{top, TasksFit, Sized, Owned, Turned, TimesAsked, Timed, over, OverAsked, Straight};
-ghost use Rattle.screen.specs.Order.{lowestTight};
-ghost use Rattle.screen.specs.Written.{releasesOf, deadlinesOf};
+ghost use Rattle.screen.specs.Tables.{tableTasks};
+ghost use Rattle.screen.specs.Placed.{Placed};
+ghost use Rattle.screen.specs.JobTimes.{top, signedRelease, signedDue, jobRow, JobsAsked, OwnAsked, OwnRows, RoundsAsked, Adjusts, Quick, SolveAsked, Solved, Looked, Wrote, over, LowRows, WriteAsked};
+use crate::Found;
+use crate::search::lowest_on_cycle;
+use crate::settle::falls;
 use crate::settle::settle;
-use crate::wide;
-use kinds::TaskSet;
+use kinds::Attributes;
+use kinds::Counts;
+use kinds::Task;
+use kinds::wide;
 
-// c numbers from place e on: x, x + d, x + 2d and so on.
-fn put_steps(v: &mut [u32], e: usize, c: usize, x: u32, d: u32)
-    requires { ⌜ (e + c ≤ length (now v)) × (x + c * d < 4294967296) ⌝ }
-    ensures { λ r. ⌜ Stepped e c x d (now (v .entry)) (now (v .exit)) ⌝ }
+// The k jobs of a task, from place b on.
+fn put_jobs(jobs: &mut [[u32; 3]], b: usize, k: usize, t: Task)
+    requires { ⌜ JobsAsked b k t (length (now jobs)) ⌝ }
+    ensures { λ r. ⌜ Placed b k (jobRow t) (now (jobs .entry)) (now (jobs .exit)) ⌝ }
 {
+    let c = t.running;
+    let d = t.period;
+    let z = 12000 - t.deadline;
+    let mut r = t.offset;
     let mut n: usize = 0;
-    let mut a = x;
-    while n < c {
-        v[e + n] = a;
-        a += d;
+    while n < k {
+        jobs[b + n] = [c, r, z - r];
+        r += d;
         n += 1;
     }
 }
 
-// The running time, release and deadline of each job of a cycle of h ticks.
-fn own_times(
-    period: &[u32; 64],
-    running: &[u32; 64],
-    offset: &[u32; 64],
-    deadline: &[u32; 64],
-    n: usize,
-    h: u32,
-    run: &mut [u32],
-    rel: &mut [u32],
-    due: &mut [u32],
-)
-    requires { ⌜ (TasksFit (tasksOf n (now period) (now running) (now offset) (now deadline)) h) × (Sized (tasksOf n (now period) (now running) (now offset) (now deadline)) (now run) (now rel) (now due)) ⌝ }
-    ensures { λ r. ⌜ Owned (tasksOf n (now (period .entry)) (now (running .entry)) (now (offset .entry)) (now (deadline .entry))) (now (run .exit)) (now (rel .exit)) (now (due .exit)) (jobs (tasksOf n (now (period .entry)) (now (running .entry)) (now (offset .entry)) (now (deadline .entry)))) ⌝ }
+// The running time of each job of a cycle, its release, and how far before tick 12,000 it is due.
+fn own_times(f: Counts, attributes: &Attributes, jobs: &mut [[u32; 3]])
+    requires { ⌜ OwnAsked (tableTasks f (now attributes)) (f .ticks) (now jobs) ⌝ }
+    ensures { λ r. ⌜ OwnRows (tableTasks f (now (attributes .entry))) (now (jobs .exit)) ⌝ }
 {
+    let n = f.tasks;
+    let h = f.ticks;
     let mut b: usize = 0;
     let mut i: usize = 0;
     while i < n {
-        let t = period[i];
-        let o = offset[i];
-        let d = deadline[i];
-        let k = wide(h / t);
-        put_steps(run, b, k, running[i], 0);
-        put_steps(rel, b, k, o, t);
-        put_steps(due, b, k, o + d, t);
+        let t = kinds::task_at(attributes, i);
+        let k = wide(h / t.period);
+        put_jobs(jobs, b, k, t);
         b += k;
         i += 1;
     }
 }
 
-// How far before tick 12,000 each deadline lies.
-fn turn(v: &mut [u32])
-    requires { ⌜ ((x : ℕ) → x < length (now v) → getD (now v) x 0 ≤ top) ⌝ }
-    ensures { λ r. ⌜ Turned (now (v .entry)) (now (v .exit)) ⌝ }
+// Adjusted times, in at most so many rounds; whether the last changed nothing.
+fn adjust_rows(
+    f: Counts,
+    attributes: &Attributes,
+    links: &[[u16; 2]],
+    jobs: &mut [[u32; 3]],
+    most: usize,
+) -> bool
+    requires { ⌜ RoundsAsked (tableTasks f (now attributes)) (f .ticks) (now links) (now jobs) ⌝ }
+    ensures { λ r. ⌜ Adjusts (tableTasks f (now (attributes .entry))) (now (links .entry)) (now (jobs .entry)) (now (jobs .exit)) most r ⌝ }
 {
-    let mut i: usize = 0;
-    while i < v.len() {
-        v[i] = 12000 - v[i];
-        i += 1;
+    own_times(f, attributes, jobs);
+    settle(links, jobs, most)
+}
+
+// Adjusted times, where few rounds give them and show that no job lies on a cycle.
+fn adjust_soon(
+    f: Counts,
+    attributes: &Attributes,
+    links: &[[u16; 2]],
+    jobs: &mut [[u32; 3]],
+) -> bool
+    requires { ⌜ RoundsAsked (tableTasks f (now attributes)) (f .ticks) (now links) (now jobs) ⌝ }
+    ensures { λ r. ⌜ Quick (tableTasks f (now (attributes .entry))) (now (links .entry)) (now (jobs .entry)) (now (jobs .exit)) r ⌝ }
+{
+    if !adjust_rows(f, attributes, links, jobs, 64) {
+        return false;
     }
+    falls(links, jobs)
 }
 
-// Running times, adjusted releases, and how far before tick 12,000 each adjusted deadline lies, where the links make no cycle.
-fn times_of(
-    from: &[u16],
-    to: &[u16],
-    period: &[u32; 64],
-    running: &[u32; 64],
-    offset: &[u32; 64],
-    deadline: &[u32; 64],
-    n: usize,
-    h: u32,
-    zero: &[u32],
-    run: &mut [u32],
-    rel: &mut [u32],
-    ahead: &mut [u32],
-)
-    requires { ⌜ TimesAsked (now from) (now to) (tasksOf n (now period) (now running) (now offset) (now deadline)) h (now zero) (now run) (now rel) (now ahead) ⌝ }
-    ensures { λ r. ⌜ Timed (now (from .entry)) (now (to .entry)) (tasksOf n (now (period .entry)) (now (running .entry)) (now (offset .entry)) (now (deadline .entry))) (now (run .exit)) (now (rel .exit)) (now (ahead .exit)) ⌝ }
+// The lowest job that lies on a cycle; where none does, the number of jobs, and adjusted times.
+pub(crate) fn solve(
+    f: Counts,
+    attributes: &Attributes,
+    links: &[[u16; 2]],
+    next: &mut [u16],
+    jobs: &mut [[u32; 3]],
+) -> usize
+    requires { ⌜ SolveAsked (tableTasks f (now attributes)) (f .ticks) (now links) (now next) (now jobs) ⌝ }
+    ensures { λ r. ⌜ Solved (tableTasks f (now (attributes .entry))) (now (links .entry)) (now (jobs .exit)) r ⌝ }
 {
-    own_times(period, running, offset, deadline, n, h, run, rel, ahead);
-    turn(ahead);
-    settle(from, to, zero, rel);
-    settle(to, from, run, ahead);
+    if adjust_soon(f, attributes, links, jobs) {
+        return jobs.len();
+    }
+    let x = lowest_on_cycle(links, next, jobs);
+    let n = jobs.len();
+    if x < n {
+        return x;
+    }
+    adjust_rows(f, attributes, links, jobs, n);
+    n
 }
 
-// Whether job x's adjusted release and running time pass its adjusted deadline.
-fn is_over(run: &[u32], rel: &[u32], ahead: &[u32], x: usize) -> bool
-    requires { ⌜ (OverAsked (now run) (now rel) (now ahead) (length (now run))) × (x < length (now run)) ⌝ }
-    ensures { λ r. ⌜ r ≡ over (now (run .entry)) (now (rel .entry)) (now (ahead .entry)) x ⌝ }
-{
-    12000 < rel[x] + run[x] + ahead[x]
-}
-
-// The lowest such job, the number of jobs where there is none.
-fn first_over(run: &[u32], rel: &[u32], ahead: &[u32]) -> usize
-    requires { ⌜ OverAsked (now run) (now rel) (now ahead) (length (now run)) ⌝ }
-    ensures { λ r. ⌜ r ≡ least (over (now (run .entry)) (now (rel .entry)) (now (ahead .entry))) (length (now (run .entry))) ⌝ }
+// The lowest job whose adjusted release and running time pass its adjusted deadline, the number of jobs where there is none.
+pub(crate) fn first_over(jobs: &[[u32; 3]]) -> usize
+    requires { ⌜ LowRows (now jobs) ⌝ }
+    ensures { λ r. ⌜ r ≡ least (over (now (jobs .entry))) (length (now (jobs .entry))) ⌝ }
 {
     let mut x: usize = 0;
-    while x < run.len() {
-        if is_over(run, rel, ahead, x) {
+    while x < jobs.len() {
+        let r = jobs[x];
+        if 12000 < r[1] + r[0] + r[2] {
             return x;
         }
         x += 1;
@@ -135,169 +142,63 @@ fn plain(x: u32) -> i32
     x as i32
 }
 
-// The time that lies each number before tick 12,000.
-fn write_left(v: &[u32], out: &mut [i32])
-    requires { ⌜ (length (now v) ≡ length (now out)) × ((x : ℕ) → x < length (now v) → getD (now v) x 0 ≤ limit) ⌝ }
-    ensures { λ r. ⌜ now (out .exit) ≡ table (λ x. subℕ top (getD (now (v .entry)) x 0)) (length (now (out .entry))) ⌝ }
+// Each job's release and deadline.
+pub(crate) fn write_times(jobs: &[[u32; 3]], releases: &mut [i32], deadlines: &mut [i32])
+    requires { ⌜ WriteAsked (now jobs) (length (now releases)) (length (now deadlines)) ⌝ }
+    ensures { λ r. ⌜ (now (releases .exit) ≡ table (signedRelease (now (jobs .entry))) (length (now (jobs .entry))))
+        × (now (deadlines .exit) ≡ table (signedDue (now (jobs .entry))) (length (now (jobs .entry)))) ⌝ }
 {
     let mut x: usize = 0;
-    while x < out.len() {
-        let z = left_of(v[x]);
-        out[x] = z;
+    while x < jobs.len() {
+        let r = jobs[x];
+        let a = plain(r[1]);
+        releases[x] = a;
+        let z = left_of(r[2]);
+        deadlines[x] = z;
         x += 1;
     }
 }
 
-// Each number as it is.
-fn write_plain(v: &[u32], out: &mut [i32])
-    requires { ⌜ (length (now v) ≡ length (now out)) × ((x : ℕ) → x < length (now v) → getD (now v) x 0 ≤ limit) ⌝ }
-    ensures { λ r. ⌜ now (out .exit) ≡ table (λ x. pos (getD (now (v .entry)) x 0)) (length (now (out .entry))) ⌝ }
+// The lowest job on a cycle; where there is none, the lowest that is too tight.
+pub(crate) fn look_in(
+    f: Counts,
+    attributes: &Attributes,
+    links: &[[u16; 2]],
+    next: &mut [u16],
+    jobs: &mut [[u32; 3]],
+) -> Found
+    requires { ⌜ SolveAsked (tableTasks f (now attributes)) (f .ticks) (now links) (now next) (now jobs) ⌝ }
+    ensures { λ r. ⌜ Looked (tableTasks f (now (attributes .entry))) (now (links .entry)) (now (jobs .exit)) r ⌝ }
 {
-    let mut x: usize = 0;
-    while x < out.len() {
-        let z = plain(v[x]);
-        out[x] = z;
-        x += 1;
+    let x = solve(f, attributes, links, next, jobs);
+    let n = jobs.len();
+    if x < n {
+        return Found { cycle: x, tight: n };
     }
+    let y = first_over(jobs);
+    Found { cycle: x, tight: y }
 }
 
-// The lowest tight job, with lists to write the times in.
-fn tight_by(
-    from: &[u16],
-    to: &[u16],
-    period: &[u32; 64],
-    running: &[u32; 64],
-    offset: &[u32; 64],
-    deadline: &[u32; 64],
-    n: usize,
-    h: u32,
-    zero: &[u32],
-    run: &mut [u32],
-    rel: &mut [u32],
-    ahead: &mut [u32],
+// The lowest job on a cycle; where there is none, adjusted times are written.
+pub(crate) fn write_in(
+    f: Counts,
+    attributes: &Attributes,
+    links: &[[u16; 2]],
+    next: &mut [u16],
+    jobs: &mut [[u32; 3]],
+    releases: &mut [i32],
+    deadlines: &mut [i32],
 ) -> usize
-    requires { ⌜ TimesAsked (now from) (now to) (tasksOf n (now period) (now running) (now offset) (now deadline)) h (now zero) (now run) (now rel) (now ahead) ⌝ }
-    ensures { λ r. ⌜ (Timed (now (from .entry)) (now (to .entry)) (tasksOf n (now (period .entry)) (now (running .entry)) (now (offset .entry)) (now (deadline .entry))) (now (run .exit)) (now (rel .exit)) (now (ahead .exit))) × (r ≡ least (over (now (run .exit)) (now (rel .exit)) (now (ahead .exit))) (length (now (run .exit)))) ⌝ }
+    requires { ⌜ (SolveAsked (tableTasks f (now attributes)) (f .ticks) (now links) (now next) (now jobs))
+        × (length (now releases) ≡ length (now jobs)) × (length (now deadlines) ≡ length (now jobs)) ⌝ }
+    ensures { λ r. ⌜ Wrote (tableTasks f (now (attributes .entry))) (now (links .entry)) (now (jobs .exit)) r
+        (now (releases .entry)) (now (deadlines .entry)) (now (releases .exit)) (now (deadlines .exit)) ⌝ }
 {
-    times_of(
-        from,
-        to,
-        period,
-        running,
-        offset,
-        deadline,
-        n,
-        h,
-        zero,
-        run,
-        rel,
-        ahead,
-    );
-    first_over(run, rel, ahead)
-}
-
-// The lowest tight job of a cycle of h ticks and n jobs, n where there is none.
-pub(crate) fn lowest_tight(set: TaskSet, h: u32, n: usize, from: &[u16], to: &[u16]) -> usize
-    requires { ⌜ (Straight (view set) h (now from) (now to)) × (n ≡ jobs (view set .tasks)) ⌝ }
-    ensures { λ r. ⌜ r ≡ lowestTight (view set) ⌝ }
-{
-    let period = set.period;
-    let running = set.running;
-    let offset = set.offset;
-    let deadline = set.deadline;
-    let zero = [0u32; 2048];
-    let mut run = [0u32; 2048];
-    let mut rel = [0u32; 2048];
-    let mut ahead = [0u32; 2048];
-    tight_by(
-        from,
-        to,
-        &period,
-        &running,
-        &offset,
-        &deadline,
-        set.tasks,
-        h,
-        &zero[..n],
-        &mut run[..n],
-        &mut rel[..n],
-        &mut ahead[..n],
-    )
-}
-
-// Adjusted releases and deadlines, with lists to write the times in.
-fn write_by(
-    from: &[u16],
-    to: &[u16],
-    period: &[u32; 64],
-    running: &[u32; 64],
-    offset: &[u32; 64],
-    deadline: &[u32; 64],
-    n: usize,
-    h: u32,
-    zero: &[u32],
-    run: &mut [u32],
-    rel: &mut [u32],
-    ahead: &mut [u32],
-    releases: &mut [i32],
-    deadlines: &mut [i32],
-)
-    requires { ⌜ (TimesAsked (now from) (now to) (tasksOf n (now period) (now running) (now offset) (now deadline)) h (now zero) (now run) (now rel) (now ahead)) × (length (now releases) ≡ jobs (tasksOf n (now period) (now running) (now offset) (now deadline))) × (length (now deadlines) ≡ jobs (tasksOf n (now period) (now running) (now offset) (now deadline))) ⌝ }
-    ensures { λ r. ⌜ (Timed (now (from .entry)) (now (to .entry)) (tasksOf n (now (period .entry)) (now (running .entry)) (now (offset .entry)) (now (deadline .entry))) (now (run .exit)) (now (rel .exit)) (now (ahead .exit))) × (now (releases .exit) ≡ table (λ x. pos (getD (now (rel .exit)) x 0)) (length (now (releases .entry)))) × (now (deadlines .exit) ≡ table (λ x. subℕ top (getD (now (ahead .exit)) x 0)) (length (now (deadlines .entry)))) ⌝ }
-{
-    times_of(
-        from,
-        to,
-        period,
-        running,
-        offset,
-        deadline,
-        n,
-        h,
-        zero,
-        run,
-        rel,
-        ahead,
-    );
-    write_plain(rel, releases);
-    write_left(ahead, deadlines);
-}
-
-// Adjusted releases and deadlines of each job of a cycle of h ticks.
-pub(crate) fn write_times(
-    set: TaskSet,
-    h: u32,
-    from: &[u16],
-    to: &[u16],
-    releases: &mut [i32],
-    deadlines: &mut [i32],
-)
-    requires { ⌜ (Straight (view set) h (now from) (now to)) × (length (now releases) ≡ jobs (view set .tasks)) × (length (now deadlines) ≡ jobs (view set .tasks)) ⌝ }
-    ensures { λ r. ⌜ (now (releases .exit) ≡ releasesOf (view set)) × (now (deadlines .exit) ≡ deadlinesOf (view set)) ⌝ }
-{
-    let period = set.period;
-    let running = set.running;
-    let offset = set.offset;
-    let deadline = set.deadline;
-    let n = releases.len();
-    let zero = [0u32; 2048];
-    let mut run = [0u32; 2048];
-    let mut rel = [0u32; 2048];
-    let mut ahead = [0u32; 2048];
-    write_by(
-        from,
-        to,
-        &period,
-        &running,
-        &offset,
-        &deadline,
-        set.tasks,
-        h,
-        &zero[..n],
-        &mut run[..n],
-        &mut rel[..n],
-        &mut ahead[..n],
-        releases,
-        deadlines,
-    );
+    let x = solve(f, attributes, links, next, jobs);
+    let n = jobs.len();
+    if x < n {
+        return x;
+    }
+    write_times(jobs, releases, deadlines);
+    x
 }

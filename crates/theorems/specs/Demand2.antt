@@ -13,12 +13,12 @@ use Rattle.kinds.specs.Cycle.{cycle}
 use Rattle.kinds.specs.Plans.{planOf}
 use Rattle.kinds.specs.Sound.{sound}
 use Rattle.kinds.specs.Valid.{Valid}
-use Rattle.kinds.specs.Facts.{sound-facts}
+use Rattle.kinds.proofs.SoundFacts.{sound-facts}
 use Rattle.judge.specs.declared.Verdict.{Verdict}
 use Rattle.judge.specs.declared.Verdict.the-variants as verdict
 use Rattle.judge.specs.Judgement.{verdictOf, rules, planRules}
 use Rattle.theorems.specs.Names.{Keeps11, Keeps12, claims, KeptBefore, Breach, Names}
-use Rattle.theorems.specs.Clean.{clean-valid, keeps-20, keeps-21, keeps-22, keeps-23}
+use Rattle.theorems.specs.RulesMeanValid.{clean-valid, keeps-20, keeps-21, keeps-22, keeps-23}
 use Rattle.theorems.specs.FirstRule.{is-verdict, verdict-names}
 
 -- no slot is above the task count, said in two ways
@@ -38,7 +38,8 @@ keeps-accepted s slots k = sym (is-verdict s slots verdict.Accepted (record { ke
 
 -- ==== For a sound task set, and a plan of m·H slots of which none is above the task count: the judge accepts the plan exactly if its endless repetition
 -- gives every job exactly its running time between release and deadline and no tick outside, never on two processors at once, with every precedence kept.
-pub judge-accepts : (s : Set) (slots : List ℕ) → sound s ≡ true → length slots ≡ s .processors * cycle (s .tasks) → ((e : ℕ) → e < length slots → getD slots e 0 ≤ s .tasks .count) → (verdictOf s slots ≡ verdict.Accepted) ↔ Valid s (planOf s slots)
+pub judge-accepts : (s : Set) (slots : List ℕ) → sound s ≡ true → length slots ≡ s .processors * cycle (s .tasks)
+    → ((e : ℕ) → e < length slots → getD slots e 0 ≤ s .tasks .count) → (verdictOf s slots ≡ verdict.Accepted) ↔ Valid s (planOf s slots)
 unfolding claims earlier KeptBy rules planRules
 judge-accepts s slots a b c = (
   λ e. let k = accepted-keeps s slots e in clean-valid s (sound-facts s a) slots (k 20 refl) (k 21 refl) (k 22 refl) (k 23 refl),
@@ -52,7 +53,9 @@ judge-accepts s slots a b c = (
 
 -- ==== For any task set and any slots: the judge accepts exactly if the set is sound, there are m·H slots, none is above the task count, and the plan's
 -- endless repetition is valid.
-pub accepted-iff : (s : Set) (slots : List ℕ) → (verdictOf s slots ≡ verdict.Accepted) ↔ ((sound s ≡ true) × (length slots ≡ s .processors * cycle (s .tasks)) × ((e : ℕ) → e < length slots → getD slots e 0 ≤ s .tasks .count) × Valid s (planOf s slots))
+pub accepted-iff : (s : Set) (slots : List ℕ)
+    → (verdictOf s slots ≡ verdict.Accepted) ↔ ((sound s ≡ true) × (length slots ≡ s .processors * cycle (s .tasks)) × ((e : ℕ) → e < length slots
+    → getD slots e 0 ≤ s .tasks .count) × Valid s (planOf s slots))
 unfolding claims earlier KeptBy rules planRules
 accepted-iff s slots = (
   λ e.

@@ -7,7 +7,9 @@ use lib.ListN.{length}
 use borrow.Author.Tests.{not-true, not-false, eqb-true, eqb-false, eq-eqb, ne-eqb}
 use Rattle.vocabulary.specs.Least.{least}
 use Rattle.vocabulary.specs.First.{firstOf, from, Each, _also_, Told, first-from, first-told, KeptBy}
-use Rattle.vocabulary.specs.Lowest.{none-holds, holds-none, lowest, lowest-some, lowest-least, none-holds2, holds-none2, lowest2, lowest2-some, lowest2-first, lowest2-second, none-holds3, holds-none3, lowest3, lowest3-some, lowest3-first, lowest3-second, lowest3-third}
+use Rattle.vocabulary.specs.Lowest.{none-holds, holds-none, lowest, lowest-some, lowest-least, none-holds2, holds-none2, lowest2, lowest2-some}
+use Rattle.vocabulary.specs.Lowest.{lowest2-first, lowest2-second, none-holds3, holds-none3, lowest3, lowest3-some, lowest3-first, lowest3-second}
+use Rattle.vocabulary.specs.Lowest.{lowest3-third}
 use Rattle.kinds.specs.Tasks.{Tasks, Patterns, Set, pairCount}
 use Rattle.kinds.specs.Cycle.{cycle, jobsOf}
 use Rattle.kinds.specs.Links.{repeats}
@@ -22,19 +24,23 @@ use Rattle.theorems.specs.Names.{claims, Breach, Names}
 use Rattle.theorems.specs.RuleLaws.{high-search, twin-search, stray-search, count-search, link-search}
 
 -- ---- evidence by its searches
-twice-is : (p : Plan) (t q r : ℕ) → t ≡ least (clashes p) (p .cycle) → q ≡ least (mated p t) (p .processors) → r ≡ least (twin p t q) (p .processors) → verdict.Twice t q r ≡ twiceAt p
+twice-is : (p : Plan) (t q r : ℕ) → t ≡ least (clashes p) (p .cycle) → q ≡ least (mated p t) (p .processors) → r ≡ least (twin p t q) (p .processors)
+    → verdict.Twice t q r ≡ twiceAt p
 unfolding twiceAt
 twice-is p t q r a b c = rw (← a, ← b, ← c)
 
-outside-is : (u : Tasks) (p : Plan) (c q : ℕ) → c ≡ least (strayed u p) (p .cycle) → q ≡ least (strays u p c) (p .processors) → verdict.Outside c q ≡ outsideAt u p
+outside-is : (u : Tasks) (p : Plan) (c q : ℕ) → c ≡ least (strayed u p) (p .cycle) → q ≡ least (strays u p c) (p .processors)
+    → verdict.Outside c q ≡ outsideAt u p
 unfolding outsideAt
 outside-is u p c q a b = rw (← a, ← b)
 
-wrong-is : (u : Tasks) (p : Plan) (i k c : ℕ) → i ≡ least (miscounted u p) (u .count) → k ≡ least (miscounts u p i) (jobsOf u i) → c ≡ ticks u p i k → verdict.WrongCount i k c ≡ wrongAt u p
+wrong-is : (u : Tasks) (p : Plan) (i k c : ℕ) → i ≡ least (miscounted u p) (u .count) → k ≡ least (miscounts u p i) (jobsOf u i) → c ≡ ticks u p i k
+    → verdict.WrongCount i k c ≡ wrongAt u p
 unfolding wrongAt
 wrong-is u p i k c a b e = rw (← a, ← b, ← e)
 
-broken-is : (u : Tasks) (v : Patterns) (p : Plan) (k q n : ℕ) → k ≡ least (brokenPattern u v p) (v .count) → q ≡ least (brokenPair u v p k) (pairCount v k) → n ≡ least (breaks u v p k q) (repeats u v k) → verdict.BrokenLink k q n ≡ brokenAt u v p
+broken-is : (u : Tasks) (v : Patterns) (p : Plan) (k q n : ℕ) → k ≡ least (brokenPattern u v p) (v .count)
+    → q ≡ least (brokenPair u v p k) (pairCount v k) → n ≡ least (breaks u v p k q) (repeats u v k) → verdict.BrokenLink k q n ≡ brokenAt u v p
 unfolding brokenAt
 broken-is u v p k q n a b c = rw (← a, ← b, ← c)
 

@@ -14,7 +14,7 @@ use Rattle.kinds.specs.Jobs.{release, due, inWindow}
 use Rattle.kinds.specs.Links.{linkFrom, linkTo, repeats}
 use Rattle.kinds.specs.Plans.{Plan, planOf, ticks}
 use Rattle.kinds.specs.Valid.{LinkKept}
-use Rattle.kinds.specs.Facts.{Sound}
+use Rattle.kinds.proofs.SoundFacts.{Sound}
 use Rattle.judge.specs.Rules.{breaks}
 use Rattle.laws.specs.Repeat.{ticks-again}
 use Rattle.laws.specs.Windows.{window-again}
@@ -36,14 +36,18 @@ pub record JobInCycle (u : Tasks) (i k : ℕ) : Type 0 where
 
 -- the n-th link of pair q of pattern k is kept
 abbrev pub LinkOf : Set → Plan → ℕ → ℕ → ℕ → Type 0
-LinkOf s p k q n = LinkKept (s .tasks) p (fromTask (s .patterns) k) (linkFrom (s .tasks) (s .patterns) k q n) (toTask (s .patterns) k) (linkTo (s .tasks) (s .patterns) k q n)
+LinkOf s p k q n =
+    LinkKept (s .tasks) p (fromTask (s .patterns) k) (linkFrom (s .tasks) (s .patterns) k q n) (toTask (s .patterns) k)
+    (linkTo (s .tasks) (s .patterns) k q n)
 
 -- what one cycle says of all time, for the plan of a set
 pub record OneCycle (s : Set) (p : Plan) : Type 0 where
   pub counts : (i k : ℕ) → i < s .tasks .count → ticks (s .tasks) p i k ≡ ticks (s .tasks) p i (k % jobsOf (s .tasks) i)
-  pub windows : (i k t : ℕ) → i < s .tasks .count → inWindow (s .tasks) i k (t + k / jobsOf (s .tasks) i * cycle (s .tasks)) ≡ inWindow (s .tasks) i (k % jobsOf (s .tasks) i) t
+  pub windows : (i k t : ℕ) → i < s .tasks .count
+      → inWindow (s .tasks) i k (t + k / jobsOf (s .tasks) i * cycle (s .tasks)) ≡ inWindow (s .tasks) i (k % jobsOf (s .tasks) i) t
   pub links : (k q n : ℕ) → k < s .patterns .count → LinkOf s p k q n ↔ LinkOf s p k q (n % repeats (s .tasks) (s .patterns) k)
-  pub broken : (k q n : ℕ) → k < s .patterns .count → breaks (s .tasks) (s .patterns) p k q n ≡ breaks (s .tasks) (s .patterns) p k q (n % repeats (s .tasks) (s .patterns) k)
+  pub broken : (k q n : ℕ) → k < s .patterns .count
+      → breaks (s .tasks) (s .patterns) p k q n ≡ breaks (s .tasks) (s .patterns) p k q (n % repeats (s .tasks) (s .patterns) k)
 
 -- ==== Two numbers that are the least below n to pass a test are equal.
 pub least-unique : (f : ℕ → Bool) (n a b : ℕ) → Least f n a → Least f n b → a ≡ b

@@ -2,7 +2,7 @@ pub mod LinkLaws
 pub mod Foundations
 pub mod Names
 pub mod RuleLaws
-pub mod Clean
+pub mod RulesMeanValid
 pub mod FirstRule
 pub mod Demand2
 pub mod ScreenTimes
@@ -11,7 +11,7 @@ pub mod ScreenJobs
 pub mod ScreenLoad
 pub mod ScreenFinal
 pub mod Demand3Terms
-pub mod Solo
+pub mod OneTask
 pub mod Demand3Plans
 pub mod Demand3Calls
 pub mod Demand3

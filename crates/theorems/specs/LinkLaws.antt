@@ -12,16 +12,17 @@ use Rattle.kinds.specs.Jobs.{release}
 use Rattle.kinds.specs.Links.{linkFrom, linkTo, repeats}
 use Rattle.kinds.specs.Plans.{Plan, planOf}
 use Rattle.kinds.specs.Valid.{LinkKept}
-use Rattle.kinds.specs.Facts.{Sound}
+use Rattle.kinds.proofs.SoundFacts.{Sound}
 use Rattle.judge.specs.Rules.{against, bars, broken, breaks}
-use Rattle.judge.specs.Broken.{kept-iff}
+use Rattle.judge.proofs.Broken.{kept-iff}
 use Rattle.laws.specs.Repeat.{runs-shift}
 use Rattle.laws.specs.Windows.{leb-shift}
 use Rattle.laws.specs.Links.{from-again, to-again}
 
 -- ---- one cycle's links speak for all
 -- jobs that are put off alike
-broken-shift : (u : Tasks) (p : Plan) (i k k′ j l l′ c : ℕ) → release u i k ≡ release u i k′ + c * p .cycle → release u j l ≡ release u j l′ + c * p .cycle → broken u p i k j l ≡ broken u p i k′ j l′
+broken-shift : (u : Tasks) (p : Plan) (i k k′ j l l′ c : ℕ) → release u i k ≡ release u i k′ + c * p .cycle
+    → release u j l ≡ release u j l′ + c * p .cycle → broken u p i k j l ≡ broken u p i k′ j l′
 unfolding broken bars against
 broken-shift u p i k k′ j l l′ c e f =
     some-same (bars u p i k j l) (bars u p i k′ j l′) (deadline u i)
@@ -32,16 +33,19 @@ broken-shift u p i k k′ j l l′ c e f =
     ap₂ _&&_ (runs-shift u p j l l′ c y f)
     (leb-shift (release u j l + y) (release u i k + x) (release u j l′ + y) (release u i k′ + x) (c * p .cycle) (omega arith) (omega arith)))))
 
-pub breaks-again : (s : Set) → Sound s → (slots : List ℕ) (k q n : ℕ) → k < s .patterns .count → breaks (s .tasks) (s .patterns) (planOf s slots) k q n ≡ breaks (s .tasks) (s .patterns) (planOf s slots) k q (n % repeats (s .tasks) (s .patterns) k)
+pub breaks-again : (s : Set) → Sound s → (slots : List ℕ) (k q n : ℕ) → k < s .patterns .count
+    → breaks (s .tasks) (s .patterns) (planOf s slots) k q n ≡ breaks (s .tasks) (s .patterns) (planOf s slots) k q (n % repeats (s .tasks) (s .patterns) k)
 unfolding breaks
 breaks-again s f slots k q n lk =
     let u = s .tasks in
     let v = s .patterns in
     let r : ℕ = n % repeats u v k in
-    broken-shift u (planOf s slots) (fromTask v k) (linkFrom u v k q n) (linkFrom u v k q r) (toTask v k) (linkTo u v k q n) (linkTo u v k q r) (n / repeats u v k)
+    broken-shift u (planOf s slots) (fromTask v k) (linkFrom u v k q n) (linkFrom u v k q r) (toTask v k) (linkTo u v k q n) (linkTo u v k q r)
+    (n / repeats u v k)
     (from-again s f k lk q n) (to-again s f k lk q n)
 
-pub kept-again : (s : Set) → Sound s → (slots : List ℕ) (k q n : ℕ) → k < s .patterns .count → (let u = s .tasks in let v = s .patterns in let r : ℕ = n % repeats u v k in LinkKept u (planOf s slots) (fromTask v k) (linkFrom u v k q n) (toTask v k) (linkTo u v k q n) ↔ LinkKept u (planOf s slots) (fromTask v k) (linkFrom u v k q r) (toTask v k) (linkTo u v k q r))
+pub kept-again : (s : Set) → Sound s → (slots : List ℕ) (k q n : ℕ) → k < s .patterns .count
+    → (let u = s .tasks in let v = s .patterns in let r : ℕ = n % repeats u v k in LinkKept u (planOf s slots) (fromTask v k) (linkFrom u v k q n) (toTask v k) (linkTo u v k q n) ↔ LinkKept u (planOf s slots) (fromTask v k) (linkFrom u v k q r) (toTask v k) (linkTo u v k q r))
 unfolding breaks
 kept-again s f slots k q n lk =
     let u = s .tasks in

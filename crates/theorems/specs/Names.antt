@@ -62,7 +62,8 @@ pub record Keeps22 (s : Set) (slots : List ℕ) : Type 0 where
   pub none : (i k : ℕ) → i < s .tasks .count → k < jobsOf (s .tasks) i → Miscounted (s .tasks) (planOf s slots) i k → ⊥
 
 pub record Keeps23 (s : Set) (slots : List ℕ) : Type 0 where
-  pub none : (k q n : ℕ) → k < s .patterns .count → q < pairCount (s .patterns) k → n < repeats (s .tasks) (s .patterns) k → LinkBroken (s .tasks) (s .patterns) (planOf s slots) k q n → ⊥
+  pub none : (k q n : ℕ) → k < s .patterns .count → q < pairCount (s .patterns) k → n < repeats (s .tasks) (s .patterns) k
+      → LinkBroken (s .tasks) (s .patterns) (planOf s slots) k q n → ⊥
 
 -- ---- what each rule says where it is kept, by its number
 unfoldable pub claims : Set → List ℕ → List Claim
@@ -92,8 +93,11 @@ Breach s slots verdict.WrongLength = length slots ≡ s .processors * cycle (s .
 Breach s slots (verdict.BadSlot e) = Lowest (TooHigh s slots) (length slots) e
 Breach s slots (verdict.Twice t q r) = Lowest3 (Doubled (planOf s slots)) (cycle (s .tasks)) (λ x. s .processors) (λ x y. s .processors) t q r
 Breach s slots (verdict.Outside c q) = Lowest2 (Misplaced (s .tasks) (planOf s slots)) (cycle (s .tasks)) (λ x. s .processors) c q
-Breach s slots (verdict.WrongCount i k c) = Lowest2 (Miscounted (s .tasks) (planOf s slots)) (s .tasks .count) (jobsOf (s .tasks)) i k × (c ≡ ticks (s .tasks) (planOf s slots) i k)
-Breach s slots (verdict.BrokenLink k q n) = Lowest3 (LinkBroken (s .tasks) (s .patterns) (planOf s slots)) (s .patterns .count) (pairCount (s .patterns)) (λ x y. repeats (s .tasks) (s .patterns) x) k q n
+Breach s slots (verdict.WrongCount i k c) =
+    Lowest2 (Miscounted (s .tasks) (planOf s slots)) (s .tasks .count) (jobsOf (s .tasks)) i k × (c ≡ ticks (s .tasks) (planOf s slots) i k)
+Breach s slots (verdict.BrokenLink k q n) =
+    Lowest3 (LinkBroken (s .tasks) (s .patterns) (planOf s slots)) (s .patterns .count) (pairCount (s .patterns))
+    (λ x y. repeats (s .tasks) (s .patterns) x) k q n
 Breach s slots verdict.Accepted = Nothing
 
 -- ==== What a verdict claims: the rules before its own are kept, its own is broken, and its evidence is the lowest. Acceptance claims that all are kept.

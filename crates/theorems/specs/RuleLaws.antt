@@ -15,7 +15,7 @@ use Rattle.kinds.specs.Plans.{Plan, slot, ticks}
 use Rattle.judge.specs.Rules.{high, twin, mated, clashes, strays, strayed, miscounts, miscounted, broken, breaks, brokenPair, brokenPattern}
 use Rattle.vocabulary.specs.Lowest.{Search, Search2, Search3}
 use Rattle.theorems.specs.Names.{TooHigh, Doubled, Misplaced, Miscounted, LinkBroken}
-use Rattle.judge.specs.Broken.{kept-iff}
+use Rattle.judge.proofs.Broken.{kept-iff}
 
 -- 12
 pub high-search : (s : Set) (slots : List ℕ) → Search (TooHigh s slots) (high slots (s .tasks .count))

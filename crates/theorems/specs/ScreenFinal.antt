@@ -20,7 +20,7 @@ use Rattle.kinds.specs.Links.{linkFrom, linkTo}
 use Rattle.kinds.specs.Plans.{Plan, planOf, runs, ticks}
 use Rattle.kinds.specs.Valid.{TickOf, Valid}
 use Rattle.kinds.specs.Sound.{sound}
-use Rattle.kinds.specs.Facts.{Sound, sound-facts}
+use Rattle.kinds.proofs.SoundFacts.{Sound, sound-facts}
 use Rattle.laws.specs.Order.{task-low, task-of-number, job-of-number}
 use Rattle.screen.specs.declared.Finding.the-variants as finding
 use Rattle.screen.specs.Network.{network}
@@ -84,7 +84,8 @@ module _ (s : Set) (f : Sound s) (slots : List ℕ) (valid : Valid s (planOf s s
   abbrev p : Plan
   p = planOf s slots
 
-  kept : (x t t′ : ℕ) → x < network (s .tasks) (s .patterns) .e → gets (s .tasks) (planOf s slots) (network (s .tasks) (s .patterns) .from x) t ≡ true → gets (s .tasks) (planOf s slots) (network (s .tasks) (s .patterns) .to x) t′ ≡ true → t < t′
+  kept : (x t t′ : ℕ) → x < network (s .tasks) (s .patterns) .e → gets (s .tasks) (planOf s slots) (network (s .tasks) (s .patterns) .from x) t ≡ true
+      → gets (s .tasks) (planOf s slots) (network (s .tasks) (s .patterns) .to x) t′ ≡ true → t < t′
   kept x t t′ l a b = go (each-made u v x l)
     where
       go : Made u v (network u v .from x) (network u v .to x) → t < t′
@@ -97,7 +98,8 @@ module _ (s : Set) (f : Sound s) (slots : List ℕ) (valid : Valid s (planOf s s
           (tick-of u p (toTask v k) (linkTo u v k (w .pair) (w .turn)) t′ (f .to-low k (w .pattern-low)) (i .1)
           (ap (λ (y : ℕ). gets u p y t′) (sym (w .to-is)) ∙ b))
 
-  exact : (x : ℕ) → x < jobs (s .tasks) → count (gets (s .tasks) (planOf s slots) x) (ownRelease (s .tasks) x) (ownDue (s .tasks) x - ownRelease (s .tasks) x) ≡ ownRunning (s .tasks) x
+  exact : (x : ℕ) → x < jobs (s .tasks)
+      → count (gets (s .tasks) (planOf s slots) x) (ownRelease (s .tasks) x) (ownDue (s .tasks) x - ownRelease (s .tasks) x) ≡ ownRunning (s .tasks) x
   unfolding ownRunning
   exact x l = gets-count u p x ∙ valid .exact .each (taskOfJob u x) (jobOfJob u x) (task-low u x l)
 
@@ -118,10 +120,12 @@ module _ (s : Set) (f : Sound s) (slots : List ℕ) (valid : Valid s (planOf s s
   unfolding tight adjustedRelease
   none-tight x l e =
       let g : Graph = network u v in
-      let b : 12000 < adjustedRelease u v x + ownRunning u x + ahead u v x = over 12000 (ahead u v x) (adjustedRelease u v x + ownRunning u x) (rw (adjusted-deadline-is s f x l) at e) in
+      let b : 12000 < adjustedRelease u v x + ownRunning u x + ahead u v x =
+      over 12000 (ahead u v x) (adjustedRelease u v x + ownRunning u x) (rw (adjusted-deadline-is s f x l) at e) in
       omega (
         arith,
-        room-between (jobsIn s) (gets u p) given (releaseWeight u) (λ y ly. release-weight-low u y) 12000 (λ y ly. own-due-low s f y (rw jobs-of-network at ly)) (g .n) (g .n) x
+        room-between (jobsIn s) (gets u p) given (releaseWeight u) (λ y ly. release-weight-low u y) 12000
+            (λ y ly. own-due-low s f y (rw jobs-of-network at ly)) (g .n) (g .n) x
             (rw jobs-of-network l),
       )
 

@@ -4,7 +4,7 @@ use mathlib.Core.Bool.{Bool, true}
 use Prim.Native.Nat.{ℕ, zero, suc, _+_, _-_, _<_, _≤_}
 use native.Mathlib.Omega.{arith}
 use Rattle.vocabulary.specs.Count.{count, Tick, count-one, count-room}
-use Rattle.graph.specs.Graph.{Graph, Inside, Way, one, more}
+use Rattle.graph.specs.Graph.{Graph, LinksInside, Way, one, more}
 use Rattle.graph.specs.Longest.{rounds}
 use Rattle.graph.specs.Settle.{entry-under}
 use Rattle.graph.specs.Sub.{flip}
@@ -18,7 +18,7 @@ pub record Jobs : Type 0 where
 
 -- where `runs x t` says that job x gets tick t: every job gets its ticks, in its window, and links are kept
 pub record Given (j : Jobs) (runs : ℕ → ℕ → Bool) : Type 0 where
-  pub ends : Inside (j .links)
+  pub ends : LinksInside (j .links)
   pub some-time : (x : ℕ) → x < j .links .n → 0 < j .c x
   pub inside : (x t : ℕ) → x < j .links .n → runs x t ≡ true → (j .r x ≤ t) × (t < j .d x)
   pub exact : (x : ℕ) → x < j .links .n → count (runs x) (j .r x) (j .d x - j .r x) ≡ j .c x
@@ -76,7 +76,8 @@ module _ (j : Jobs) (runs : ℕ → ℕ → Bool) (g : Given j runs) where
       omega (arith, e, hz x l)
 
   -- so there is room for a job's ticks between the two
-  pub room-between : (w : ℕ → ℕ) → ((x : ℕ) → x < j .links .n → w x ≤ j .c x) → (z : ℕ) → ((x : ℕ) → x < j .links .n → j .d x ≤ z) → (s s′ x : ℕ) → x < j .links .n → starts j w s x + j .c x + stops j z s′ x ≤ z
+  pub room-between : (w : ℕ → ℕ) → ((x : ℕ) → x < j .links .n → w x ≤ j .c x) → (z : ℕ) → ((x : ℕ) → x < j .links .n → j .d x ≤ z) → (s s′ x : ℕ)
+      → x < j .links .n → starts j w s x + j .c x + stops j z s′ x ≤ z
   room-between w hw z hz s s′ x l =
       let room = count-room (runs x) (starts j w s x) (z - stops j z s′ x) (j .r x) (j .d x - j .r x)
       (λ t p. let a = early w hw s x t l p in let b = late z hz s′ x t l p in (a, omega arith)) in

@@ -17,7 +17,7 @@ use Rattle.kinds.specs.Cycle.{cycle, jobsOf}
 use Rattle.kinds.specs.Jobs.{release}
 use Rattle.kinds.specs.Plans.{Plan, slot, shows, shown, runs, ticks}
 use Rattle.kinds.specs.Valid.{Exact}
-use Rattle.kinds.specs.Facts.{Sound}
+use Rattle.kinds.proofs.SoundFacts.{Sound}
 use Rattle.laws.specs.Repeat.{shown-again, runs-awake}
 use Rattle.screen.specs.Findings.{load, room}
 
@@ -88,7 +88,8 @@ shifted p i (suc a) =
     )
 
 -- n jobs of a task, one a period
-asked : (u : Tasks) (p : Plan) (i : ℕ) → deadline u i ≤ period u i → ((k : ℕ) → ticks u p i k ≡ running u i) → (n : ℕ) → running u i * n ≤ count (shown p i) (offset u i) (n * period u i)
+asked : (u : Tasks) (p : Plan) (i : ℕ) → deadline u i ≤ period u i → ((k : ℕ) → ticks u p i k ≡ running u i) → (n : ℕ)
+    → running u i * n ≤ count (shown p i) (offset u i) (n * period u i)
 unfolding ticks release
 asked u p i short h zero = omega arith
 asked u p i short h (suc n) =

@@ -16,7 +16,7 @@ use Rattle.graph.specs.Equation.{soonest-solves, soonest-only}
 use Rattle.kinds.specs.Tasks.{Tasks, Patterns, Set}
 use Rattle.kinds.specs.Cycle.{jobs}
 use Rattle.kinds.specs.Sound.{sound}
-use Rattle.kinds.specs.Facts.{Sound, sound-facts}
+use Rattle.kinds.proofs.SoundFacts.{Sound, sound-facts}
 use Rattle.screen.specs.Network.{network}
 use Rattle.screen.specs.NetworkLaws.{jobs-of-network, inside-network}
 use Rattle.screen.specs.Times.{ownRelease, ownDue, ownRunning, releaseWeight, AdjustedReleases, AdjustedDeadlines, adjustedRelease, adjustedDeadline}
@@ -58,7 +58,8 @@ module _ (s : Set) (e : sound s ≡ true) (free : NoCycle (s .tasks) (s .pattern
   adjusted-releases =
       record { solves = rounds-solve g (ownRelease (s .tasks)) (releaseWeight (s .tasks)) (inside-network s f) (no-cycle-free (s .tasks) (s .patterns) free) }
 
-  pub adjusted-releases-only : (a b : ℕ → ℕ) → AdjustedReleases (s .tasks) (s .patterns) a → AdjustedReleases (s .tasks) (s .patterns) b → (x : ℕ) → x < jobs (s .tasks) → a x ≡ b x
+  pub adjusted-releases-only : (a b : ℕ → ℕ) → AdjustedReleases (s .tasks) (s .patterns) a → AdjustedReleases (s .tasks) (s .patterns) b → (x : ℕ)
+      → x < jobs (s .tasks) → a x ≡ b x
   adjusted-releases-only a b p q x l =
       only g (ownRelease (s .tasks)) (releaseWeight (s .tasks)) (inside-network s f) (no-cycle-free (s .tasks) (s .patterns) free) a b (p .solves) (q .solves) x
       (rw jobs-of-network l)
@@ -71,9 +72,11 @@ module _ (s : Set) (e : sound s ≡ true) (free : NoCycle (s .tasks) (s .pattern
   adjusted-deadlines =
       record { solves = soonest-solves g (ownDue (s .tasks)) (ownRunning (s .tasks)) (inside-network s f) (no-cycle-free (s .tasks) (s .patterns) free) }
 
-  pub adjusted-deadlines-only : (a b : ℕ → ℤ) → AdjustedDeadlines (s .tasks) (s .patterns) a → AdjustedDeadlines (s .tasks) (s .patterns) b → (x : ℕ) → x < jobs (s .tasks) → a x ≡ b x
+  pub adjusted-deadlines-only : (a b : ℕ → ℤ) → AdjustedDeadlines (s .tasks) (s .patterns) a → AdjustedDeadlines (s .tasks) (s .patterns) b → (x : ℕ)
+      → x < jobs (s .tasks) → a x ≡ b x
   adjusted-deadlines-only a b p q x l =
-      soonest-only g (ownDue (s .tasks)) (ownRunning (s .tasks)) (inside-network s f) (no-cycle-free (s .tasks) (s .patterns) free) a b (p .solves) (q .solves) x
+      soonest-only g (ownDue (s .tasks)) (ownRunning (s .tasks)) (inside-network s f) (no-cycle-free (s .tasks) (s .patterns) free) a b (p .solves)
+      (q .solves) x
       (rw jobs-of-network l)
 
   pub adjusted-deadlines-fit : (x : ℕ) → x < jobs (s .tasks) → Signed32 (adjustedDeadline (s .tasks) (s .patterns) x)

@@ -14,7 +14,7 @@ use Rattle.kinds.specs.Tasks.{Tasks, Patterns, Set}
 use Rattle.kinds.specs.Cycle.{jobs, jobsOf}
 use Rattle.kinds.specs.Jobs.{numberOfJob, taskOfJob, jobOfJob}
 use Rattle.kinds.specs.Sound.{sound}
-use Rattle.kinds.specs.Facts.{sound-facts}
+use Rattle.kinds.proofs.SoundFacts.{sound-facts}
 use Rattle.laws.specs.Order.{task-low, task-of-number, job-of-number, number-low}
 use Rattle.laws.specs.Back.{job-of-low, number-back}
 use Rattle.screen.specs.declared.Finding.{Finding}
@@ -23,7 +23,8 @@ use Rattle.screen.specs.Network.{network}
 use Rattle.screen.specs.NetworkLaws.{inside-network}
 use Rattle.screen.specs.Times.{ownRunning, AdjustedReleases, AdjustedDeadlines, adjustedRelease, adjustedDeadline}
 use Rattle.screen.specs.Findings.{onCycle, load, room, tight, findingOf}
-use Rattle.screen.specs.Order.{lowestCycle, lowestTight, not-sound, on-cycle, overloaded, too-tight, nothing-found}
+use Rattle.screen.specs.Findings.{lowestCycle, lowestTight}
+use Rattle.screen.specs.Order.{not-sound, on-cycle, overloaded, too-tight, nothing-found}
 use Rattle.theorems.specs.ScreenTimes.{NoCycle, adjusted-releases, adjusted-releases-only, adjusted-deadlines, adjusted-deadlines-only}
 
 -- ---- what each finding says
@@ -115,7 +116,8 @@ module _ (s : Set) (e : sound s ≡ true) where
   unfolding onCycle
   cycle-iff x l = loops-iff (network u v) x (inside-network s (sound-facts s e))
 
-  pub tight-iff : NoCycle (s .tasks) (s .patterns) → (x : ℕ) → x < jobs (s .tasks) → (tight (s .tasks) (s .patterns) x ≡ true) ↔ Tight (s .tasks) (s .patterns) x
+  pub tight-iff : NoCycle (s .tasks) (s .patterns) → (x : ℕ) → x < jobs (s .tasks)
+      → (tight (s .tasks) (s .patterns) x ≡ true) ↔ Tight (s .tasks) (s .patterns) x
   unfolding tight
   tight-iff free x l = (there, back)
     where

@@ -1,114 +1,70 @@
 // What the programs say of a plan: the judge's verdict as a line of number, evidence and words.
 ghost use mathlib.Core.Path.{_≡_};
-ghost use Rattle.io.specs.Counts.{Counts};
-ghost use Rattle.verdicts.specs.Asked.{runningAt, askedBy};
+ghost use Rattle.verdicts.specs.Asked.{askedBy};
+use console::Line;
 use judge::Verdict;
-use kinds::TaskSet;
+use kinds::Attributes;
 
-// The running time that task i asks for; 0 past the last entry.
-fn running_of(running: &[u32; 64], i: u32) -> u32
-    ensures { λ r. ⌜ r ≡ runningAt (now (running .entry)) i ⌝ }
-{
-    let k = i as usize;
-    if TaskSet::MOST_TASKS <= k {
-        return 0;
-    }
-    running[k]
-}
-
-// The ticks that a job with a wrong count asks for, of a set with these running times; 0 for any other verdict.
-pub fn asked_of(v: Verdict, running: &[u32; 64]) -> u32
-    ensures { λ r. ⌜ r ≡ askedBy v (now (running .entry)) ⌝ }
+// The ticks that a job with a wrong count asks for, of a set with these attributes; 0 for any other verdict.
+pub fn asked_of(v: Verdict, attributes: &Attributes) -> u32
+    ensures { λ r. ⌜ r ≡ askedBy v (now (attributes .entry)) ⌝ }
 {
     match v {
-        Verdict::WrongCount(i, _, _) => running_of(running, i),
+        Verdict::WrongCount(i, _, _) => {
+            let t = kinds::task_at(attributes, i as usize);
+            t.running
+        }
         _ => 0,
     }
 }
 
-fn put_count(out: &mut [u8], at: usize, i: u32, k: u32, c: u32, asked: u32) -> usize
-    ensures { λ r. ⌜ Counts r (now (out .exit)) ⌝ }
-{
-    let mut to = wording::put_named(out, at, b" task ", i as u64);
-    to = wording::put_named(out, to, b" job ", k as u64);
-    to = console::put(out, to, b" gets ");
-    to = wording::put_counted(out, to, c as u64, b" tick");
-    wording::put_named(out, to, b", not ", asked as u64)
+// Evidence of three numbers.
+fn put_three(line: Line, a: u32, b: u32, c: u32) -> Line {
+    wording::put_two(line, a, b).put_named(b" ", c as u64)
 }
 
-// What a verdict means.
-fn put_words(out: &mut [u8], at: usize, v: Verdict, asked: u32) -> usize
-    ensures { λ r. ⌜ Counts r (now (out .exit)) ⌝ }
-{
+fn put_twice(line: Line, t: u32, q: u32, r: u32) -> Line {
+    let told = put_three(line, t, q, r).put_named(b" a task stands twice in tick ", t as u64);
+    told.put_named(b", on processors ", q as u64)
+        .put_named(b" and ", r as u64)
+}
+
+fn put_outside(line: Line, t: u32, q: u32) -> Line {
+    let shown = wording::put_two(line, t, q);
+    let told = shown.put_named(b" a slot lies outside its task's windows: tick ", t as u64);
+    told.put_named(b", processor ", q as u64)
+}
+
+fn put_miscount(line: Line, i: u32, k: u32, c: u32, asked: u32) -> Line {
+    let told = wording::put_job(put_three(line, i, k, c), i, k, b" gets ");
+    wording::put_counted(told, c as u64, b" tick").put_named(b", not ", asked as u64)
+}
+
+fn put_broken(line: Line, k: u32, q: u32, n: u32) -> Line {
+    let told = put_three(line, k, q, n).put_named(b" a link is broken: pattern ", k as u64);
+    told.put_named(b", pair ", q as u64)
+        .put_named(b", turn ", n as u64)
+}
+
+// A verdict's evidence, as far as there is some, and what it means.
+fn put_meaning(line: Line, v: Verdict, asked: u32) -> Line {
     match v {
-        Verdict::Accepted => console::put(out, at, b" accepted"),
-        Verdict::BadSet => console::put(out, at, b" the task set is not sound"),
-        Verdict::WrongLength => console::put(out, at, b" the plan has the wrong length"),
-        Verdict::BadSlot(e) => wording::put_named(
-            out,
-            at,
-            b" a slot is above the task count: slot ",
-            e as u64,
-        ),
-        Verdict::Twice(t, q, r) => {
-            let a = wording::put_named(out, at, b" a task stands twice in tick ", t as u64);
-            let b = wording::put_named(out, a, b", on processors ", q as u64);
-            wording::put_named(out, b, b" and ", r as u64)
+        Verdict::Accepted => line.put(b" accepted"),
+        Verdict::BadSet => line.put(b" the task set is not sound"),
+        Verdict::WrongLength => line.put(b" the plan has the wrong length"),
+        Verdict::BadSlot(e) => {
+            let shown = line.put_named(b" ", e as u64);
+            shown.put_named(b" a slot is above the task count: slot ", e as u64)
         }
-        Verdict::Outside(t, q) => {
-            let a = wording::put_named(
-                out,
-                at,
-                b" a slot lies outside its task's windows: tick ",
-                t as u64,
-            );
-            wording::put_named(out, a, b", processor ", q as u64)
-        }
-        Verdict::WrongCount(i, k, c) => put_count(out, at, i, k, c, asked),
-        Verdict::BrokenLink(k, q, n) => {
-            let a = wording::put_named(out, at, b" a link is broken: pattern ", k as u64);
-            let b = wording::put_named(out, a, b", pair ", q as u64);
-            wording::put_named(out, b, b", turn ", n as u64)
-        }
+        Verdict::Twice(t, q, r) => put_twice(line, t, q, r),
+        Verdict::Outside(t, q) => put_outside(line, t, q),
+        Verdict::WrongCount(i, k, c) => put_miscount(line, i, k, c, asked),
+        Verdict::BrokenLink(k, q, n) => put_broken(line, k, q, n),
     }
-}
-
-// The verdict's evidence, as far as there is some.
-fn put_evidence(out: &mut [u8], at: usize, v: Verdict) -> usize
-    ensures { λ r. ⌜ Counts r (now (out .exit)) ⌝ }
-{
-    match v {
-        Verdict::Accepted => console::put(out, at, b""),
-        Verdict::BadSet => console::put(out, at, b""),
-        Verdict::WrongLength => console::put(out, at, b""),
-        Verdict::BadSlot(e) => wording::put_next(out, at, e as u64),
-        Verdict::Twice(a, b, c) => put_three(out, at, a, b, c),
-        Verdict::Outside(a, b) => put_two(out, at, a, b),
-        Verdict::WrongCount(a, b, c) => put_three(out, at, a, b, c),
-        Verdict::BrokenLink(a, b, c) => put_three(out, at, a, b, c),
-    }
-}
-
-fn put_two(out: &mut [u8], at: usize, a: u32, b: u32) -> usize
-    ensures { λ r. ⌜ Counts r (now (out .exit)) ⌝ }
-{
-    let to = wording::put_next(out, at, a as u64);
-    wording::put_next(out, to, b as u64)
-}
-
-fn put_three(out: &mut [u8], at: usize, a: u32, b: u32, c: u32) -> usize
-    ensures { λ r. ⌜ Counts r (now (out .exit)) ⌝ }
-{
-    let to = put_two(out, at, a, b);
-    wording::put_next(out, to, c as u64)
 }
 
 // The line for a verdict: number, evidence, words. A wrong count is told with the ticks that were asked for.
-pub fn put_verdict(out: &mut [u8], at: usize, v: Verdict, asked: u32) -> usize
-    ensures { λ r. ⌜ Counts r (now (out .exit)) ⌝ }
-{
-    let to = console::put_number(out, at, judge::number_of(v) as u64);
-    let then = put_evidence(out, to, v);
-    let last = put_words(out, then, v, asked);
-    console::put(out, last, b"\n")
+pub fn print_verdict(v: Verdict, asked: u32) {
+    let line = Line::new().put_number(judge::number_of(v) as u64);
+    put_meaning(line, v, asked).put(b"\n").print();
 }

@@ -97,7 +97,8 @@ half-add x n = omega (arith, two-pow-succ n)
 
 has-add : (n x j : ℕ) → j < n → has (x + 2 ^ n) j ≡ has x j
 has-add zero x j l = absurd (omega arith)
-has-add (suc n) x zero l = rw (has-zero (x + 2 ^ suc n), has-zero x) (ap (λ (u : ℕ). eqb u 1) (let g : (x + 2 ^ suc n) % 2 ≡ x % 2 = omega (arith, two-pow-succ n) in g))
+has-add (suc n) x zero l =
+    rw (has-zero (x + 2 ^ suc n), has-zero x) (ap (λ (u : ℕ). eqb u 1) (let g : (x + 2 ^ suc n) % 2 ≡ x % 2 = omega (arith, two-pow-succ n) in g))
 has-add (suc n) x (suc j) l = rw (has-suc (x + 2 ^ suc n) j, has-suc x j, half-add) (has-add n (x / 2) j (omega arith))
 
 has-top : (n x : ℕ) → x < 2 ^ n → has (x + 2 ^ n) n ≡ true
@@ -123,7 +124,9 @@ has-pack f (suc n) j l = go (f n) refl (eq-or-lt-of-le (le-of-suc-le-suc l)) (ha
 pub has-ext : (n a b : ℕ) → a < 2 ^ n → b < 2 ^ n → ((j : ℕ) → j < n → has a j ≡ has b j) → a ≡ b
 has-ext zero a b la lb h = omega arith
 has-ext (suc n) a b la lb h =
-    let e : a / 2 ≡ b / 2 = has-ext n (a / 2) (b / 2) (omega (arith, two-pow-succ n)) (omega (arith, two-pow-succ n)) (λ j l. sym (has-suc a j) ∙ h (suc j) (omega arith) ∙ has-suc b j) in
+    let e : a / 2 ≡ b / 2 =
+    has-ext n (a / 2) (b / 2) (omega (arith, two-pow-succ n)) (omega (arith, two-pow-succ n))
+    (λ j l. sym (has-suc a j) ∙ h (suc j) (omega arith) ∙ has-suc b j) in
     let z : eqb (a % 2) 1 ≡ eqb (b % 2) 1 = sym (has-zero a) ∙ h 0 (omega arith) ∙ has-zero b in
     go (digit a) (digit b) e z
   where

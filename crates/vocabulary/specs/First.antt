@@ -118,22 +118,27 @@ there k m n ks e h = rw (e, h) (go (eqb k m))
 
 module _ {A : Type 0} (d : A) (Keeps : ℕ → Type 0) (Breach : A → Type 0) (numberOf : A → ℕ) where
   -- Where the rules before n are kept, the answer is that of the chain from n on.
-  pub first-from : (rs : List (Rule A)) (n : ℕ) → Each (Told Keeps Breach numberOf) rs → ((m : ℕ) → earlier (numbersOf rs) m n ≡ true → Keeps m) → firstOf rs d ≡ firstOf (from n rs) d
+  pub first-from : (rs : List (Rule A)) (n : ℕ) → Each (Told Keeps Breach numberOf) rs → ((m : ℕ) → earlier (numbersOf rs) m n ≡ true → Keeps m)
+      → firstOf rs d ≡ firstOf (from n rs) d
   unfolding firstOf from
   first-from [] n t k = refl
   first-from (r ∷ rs) n t k = go (eqb (r .number) n) refl (λ e. first-from rs n (t .1) (λ m h. k m (there (r .number) m n (numbersOf rs) e h)))
     where
-      go : (b : Bool) → eqb (r .number) n ≡ b → (eqb (r .number) n ≡ false → firstOf rs d ≡ firstOf (from n rs) d) → pick (r .broken) (r .answer) (firstOf rs d) ≡ firstOf (pick b (r ∷ rs) (from n rs)) d
+      go : (b : Bool) → eqb (r .number) n ≡ b → (eqb (r .number) n ≡ false → firstOf rs d ≡ firstOf (from n rs) d)
+          → pick (r .broken) (r .answer) (firstOf rs d) ≡ firstOf (pick b (r ∷ rs) (from n rs)) d
       go true e ih = refl
       go false e ih = rw (t .0 .kept .1 (k (r .number) (here (r .number) n (numbersOf rs) e))) (ih e)
 
   -- The answer is claimed, and where it stands for rule n every rule before n is kept.
-  pub first-told : (rs : List (Rule A)) → Each (Told Keeps Breach numberOf) rs → Breach d → ((m : ℕ) → earlier (numbersOf rs) m (numberOf (firstOf rs d)) ≡ true → Keeps m) × Breach (firstOf rs d)
+  pub first-told : (rs : List (Rule A)) → Each (Told Keeps Breach numberOf) rs → Breach d
+      → ((m : ℕ) → earlier (numbersOf rs) m (numberOf (firstOf rs d)) ≡ true → Keeps m) × Breach (firstOf rs d)
   unfolding firstOf earlier
   first-told [] t w = (λ m e. clash e refl, w)
   first-told (r ∷ rs) t w = go (r .broken) refl (first-told rs (t .1) w)
     where
-      go : (b : Bool) → r .broken ≡ b → ((m : ℕ) → earlier (numbersOf rs) m (numberOf (firstOf rs d)) ≡ true → Keeps m) × Breach (firstOf rs d) → ((m : ℕ) → earlier (numbersOf (r ∷ rs)) m (numberOf (pick b (r .answer) (firstOf rs d))) ≡ true → Keeps m) × Breach (pick b (r .answer) (firstOf rs d))
+      go : (b : Bool) → r .broken ≡ b → ((m : ℕ) → earlier (numbersOf rs) m (numberOf (firstOf rs d)) ≡ true → Keeps m) × Breach (firstOf rs d)
+          → ((m : ℕ) → earlier (numbersOf (r ∷ rs)) m (numberOf (pick b (r .answer) (firstOf rs d))) ≡ true
+          → Keeps m) × Breach (pick b (r .answer) (firstOf rs d))
       go true e ih = (λ m h. clash (sym (rw (t .0 .number, eq-eqb (r .number) (r .number) refl)) ∙ h) refl, t .0 .breach e)
       go false e ih = (λ m h. at m (eqb (r .number) (numberOf (firstOf rs d))) (eqb (r .number) m) refl h, ih .1)
         where

@@ -178,7 +178,8 @@ unfolding greatest
 greatest-is f zero k l e = absurd (omega arith)
 greatest-is f (suc n) k l e = go (f n) refl (greatest-is f n k) (eq-or-lt-of-le (le-of-suc-le-suc l))
   where
-    go : (b : Bool) → f n ≡ b → (k < n → f k ≡ true → (greatest f n < n) × (f (greatest f n) ≡ true) × (k ≤ greatest f n)) → (k ≡ n) ⊎ (k < n) → (pick b n (greatest f n) < suc n) × (f (pick b n (greatest f n)) ≡ true) × (k ≤ pick b n (greatest f n))
+    go : (b : Bool) → f n ≡ b → (k < n → f k ≡ true → (greatest f n < n) × (f (greatest f n) ≡ true) × (k ≤ greatest f n)) → (k ≡ n) ⊎ (k < n)
+        → (pick b n (greatest f n) < suc n) × (f (pick b n (greatest f n)) ≡ true) × (k ≤ pick b n (greatest f n))
     go true q ih h = (omega arith, q, omega arith)
     go false q ih (inl h) = clash (sym (ap f h) ∙ e) q
     go false q ih (inr h) = let w = ih h e in (omega (arith, w .0), w .1, w .2)

@@ -7,7 +7,7 @@ pub mod Table
 pub mod Bits
 pub mod Multiple
 pub mod Remainder
-pub mod More
+pub mod StopsAndZeros
 pub mod Lists
 pub mod Lowest
 pub mod Keep

@@ -15,7 +15,8 @@ use Rattle.vocabulary.specs.Table.{join, gather}
 
 module _ {A : Type 0} where
   -- an entry of two lists, one after the other, is one of the first or of the second
-  pub each-append : (P : A → Type 0) (d : A) (xs ys : List A) → ((x : ℕ) → x < length xs → P (getD xs x d)) → ((x : ℕ) → x < length ys → P (getD ys x d)) → (x : ℕ) → x < length (xs ++ ys) → P (getD (xs ++ ys) x d)
+  pub each-append : (P : A → Type 0) (d : A) (xs ys : List A) → ((x : ℕ) → x < length xs → P (getD xs x d))
+      → ((x : ℕ) → x < length ys → P (getD ys x d)) → (x : ℕ) → x < length (xs ++ ys) → P (getD (xs ++ ys) x d)
   each-append P d xs ys first second x l = go (lt-or-le x (length xs))
     where
       go : (x < length xs) ⊎ (length xs ≤ x) → P (getD (xs ++ ys) x d)
@@ -26,7 +27,8 @@ module _ {A : Type 0} where
           (second (x - length xs) (omega (arith, length-append xs ys)))
 
   -- a fact of every entry of a join, from every entry of each part
-  pub each-join : (P : A → Type 0) (d : A) (f : ℕ → List A) (n : ℕ) → ((k : ℕ) → k < n → (x : ℕ) → x < length (f k) → P (getD (f k) x d)) → (x : ℕ) → x < length (join f n) → P (getD (join f n) x d)
+  pub each-join : (P : A → Type 0) (d : A) (f : ℕ → List A) (n : ℕ) → ((k : ℕ) → k < n → (x : ℕ) → x < length (f k) → P (getD (f k) x d)) → (x : ℕ)
+      → x < length (join f n) → P (getD (join f n) x d)
   unfolding join
   each-join P d f zero h x l = absurd (omega arith)
   each-join P d f (suc n) h x l =
@@ -49,7 +51,8 @@ module _ {A : Type 0} where
   join-same f g (suc n) h = rw (join-same f g n (λ k l. h k (omega arith)), h n (omega arith))
 
   -- a fact of every entry of a gathering, from the numbers that pass
-  pub each-gather : (P : A → Type 0) (d : A) (f : ℕ → A) (p : ℕ → Bool) (n : ℕ) → ((k : ℕ) → k < n → p k ≡ true → P (f k)) → (x : ℕ) → x < length (gather f p n) → P (getD (gather f p n) x d)
+  pub each-gather : (P : A → Type 0) (d : A) (f : ℕ → A) (p : ℕ → Bool) (n : ℕ) → ((k : ℕ) → k < n → p k ≡ true → P (f k)) → (x : ℕ)
+      → x < length (gather f p n) → P (getD (gather f p n) x d)
   unfolding gather
   each-gather P d f p zero h x l = absurd (omega arith)
   each-gather P d f p (suc n) h x l =

@@ -3,7 +3,9 @@ use mathlib.Core.Bool.{Bool, true}
 use mathlib.Core.Path.{_≡_, refl, ap₂, subst}
 use mathlib.Core.Logic.{⊎-elim, _⊎_}
 use Prim.Native.Nat.{ℕ, zero, suc, _+_, _-_, _*_, _/_, _%_, _≤_, _<_, _∣_}
-use native.Mathlib.Nat.{dvd-mul-right, dvd-mul-left, dvd-trans, dvd-of-mod-eq-zero, mod-eq-zero-of-dvd, mul-div-cancel', le-of-dvd, pos-of-dvd-of-pos, le-div-iff-mul-le, mul-mod-left, mul-le-mul-left, mul-pos, mod-lt, dvd-mod-iff, one-mul, eq-zero-or-pos, one-dvd, dvd-sub, add-zero, add-suc, le-refl, le-trans, le-antisymm, eq-or-lt-of-le, le-of-suc-le-suc}
+use native.Mathlib.Nat.{dvd-mul-right, dvd-mul-left, dvd-trans, dvd-of-mod-eq-zero, mod-eq-zero-of-dvd, mul-div-cancel', le-of-dvd, pos-of-dvd-of-pos}
+use native.Mathlib.Nat.{le-div-iff-mul-le, mul-mod-left, mul-le-mul-left, mul-pos, mod-lt, dvd-mod-iff, one-mul, eq-zero-or-pos, one-dvd, dvd-sub}
+use native.Mathlib.Nat.{add-zero, add-suc, le-refl, le-trans, le-antisymm, eq-or-lt-of-le, le-of-suc-le-suc}
 use native.Mathlib.Numerals.{add-one}
 use native.Mathlib.Omega.{arith}
 use borrow.Author.Tests.{eq-eqb, eqb-true}
@@ -114,7 +116,9 @@ lcmOf-up T i n h = let e : i + (n - i) ≡ n = omega arith in rw e at (grows (n 
   where
     grows : (k : ℕ) → lcmOf T i ≤ lcmOf T (i + k)
     grows zero = rw add-zero (le-refl _)
-    grows (suc k) = rw (add-suc, ← add-one (i + k), lcmOf-more) (le-trans (grows k) (le-of-dvd (lcm-pos (lcmOf T (i + k)) (T (i + k)) (lcmOf-pos T (i + k))) (lcm-left (lcmOf T (i + k)) (T (i + k)))))
+    grows (suc k) =
+        rw (add-suc, ← add-one (i + k), lcmOf-more)
+        (le-trans (grows k) (le-of-dvd (lcm-pos (lcmOf T (i + k)) (T (i + k)) (lcmOf-pos T (i + k))) (lcm-left (lcmOf T (i + k)) (T (i + k)))))
 
 -- each of the numbers divides it
 pub lcmOf-dvd : (T : ℕ → ℕ) (n i : ℕ) → ((j : ℕ) → j < n → 0 < T j) → i < n → T i ∣ lcmOf T n

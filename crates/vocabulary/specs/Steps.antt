@@ -10,7 +10,7 @@ use lib.Seq.{getD-set-same, getD-set-other}
 use Rattle.vocabulary.specs.Test.{eq-or-ne}
 
 -- c of them stand from place e on, and what stood before e stands
-pub record Stepped (e c x d : ℕ) (v v′ : List ℕ) : Type 0 where
+pub record StepsPut (e c x d : ℕ) (v v′ : List ℕ) : Type 0 where
   pub long : length v′ ≡ length v
   pub there : (k : ℕ) → k < e → getD v′ k 0 ≡ getD v k 0
   pub here : (k : ℕ) → k < c → getD v′ (e + k) 0 ≡ x + k * d
@@ -19,7 +19,7 @@ pub record Stepped (e c x d : ℕ) (v v′ : List ℕ) : Type 0 where
 pub record Stepping (e c x d : ℕ) (v v′ : List ℕ) (n a : ℕ) : Type 0 where
   pub within : n ≤ c
   pub next : a ≡ x + n * d
-  pub done : Stepped e n x d v v′
+  pub done : StepsPut e n x d v v′
 
 pub step-from : (e c x d : ℕ) (v : List ℕ) → Stepping e c x d v v 0 x
 step-from e c x d v =
@@ -29,7 +29,8 @@ step-from e c x d v =
 pub step-low : (c x d n a m : ℕ) → a ≡ x + n * d → n < c → x + c * d < m → a + d < m
 step-low c x d n a m e l h = omega (arith, mul-le-mul (let g : suc n ≤ c = omega arith in g) (le-refl d))
 
-pub step-on : (e c x d : ℕ) (v v′ : List ℕ) (n a : ℕ) → e + c ≤ length v → Stepping e c x d v v′ n a → n < c → Stepping e c x d v (set v′ (e + n) a) (n + 1) (a + d)
+pub step-on : (e c x d : ℕ) (v v′ : List ℕ) (n a : ℕ) → e + c ≤ length v → Stepping e c x d v v′ n a → n < c
+    → Stepping e c x d v (set v′ (e + n) a) (n + 1) (a + d)
 step-on e c x d v v′ n a r p l =
     record {
       within = omega arith;
@@ -49,5 +50,5 @@ step-on e c x d v v′ n a r p l =
         ∙ ap (λ (m : ℕ). x + m * d) (sym q)
     go k lk (inr q) = getD-set-other v′ (e + n) (e + k) a 0 (λ z. q (omega arith)) ∙ p .done .here k (omega arith)
 
-pub step-end : (e c x d : ℕ) (v v′ : List ℕ) (n a : ℕ) → Stepping e c x d v v′ n a → c ≤ n → Stepped e c x d v v′
+pub step-end : (e c x d : ℕ) (v v′ : List ℕ) (n a : ℕ) → Stepping e c x d v v′ n a → c ≤ n → StepsPut e c x d v v′
 step-end e c x d v v′ n a p l = record { long = p .done .long; there = p .done .there; here = λ k lk. p .done .here k (omega arith) }

@@ -53,7 +53,8 @@ pub record Marking (g : ℕ → ℕ) (m q x : ℕ) : Type 0 where
 pub mark-from : (g : ℕ → ℕ) (m : ℕ) → Marking g m 0 0
 mark-from g m = record { within = omega arith; fits = lit< tt; is = λ j. has-none j ∙ sym (some-none (λ k. eqb (g k) (j + 1))) }
 
-pub mark-on : (g : ℕ → ℕ) (m q x x′ : ℕ) → Marking g m q x → q < m → x′ < 2 ^ 64 → ((j : ℕ) → has x′ j ≡ (has x j || eqb (g q) (j + 1))) → Marking g m (q + 1) x′
+pub mark-on : (g : ℕ → ℕ) (m q x x′ : ℕ) → Marking g m q x → q < m → x′ < 2 ^ 64 → ((j : ℕ) → has x′ j ≡ (has x j || eqb (g q) (j + 1)))
+    → Marking g m (q + 1) x′
 mark-on g m q x x′ p l f h =
     record {
       within = omega arith;

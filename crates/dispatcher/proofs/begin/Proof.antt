@@ -1,5 +1,5 @@
-use Rattle.dispatcher.specs.Heads.{firstBytes}
-use Rattle.dispatcher.specs.HeadLaws.{first-written}
+use Rattle.dispatcher.proofs.LookLaws.{first-written}
+use Rattle.dispatcher.specs.ForC.{firstBytes}
 use Rattle.dispatcher.proofs.Tags.{not-accepted}
 use borrow.Author.Needs.{needs}
 use Rattle.dispatcher.proofs.begin.Statement.{statement}

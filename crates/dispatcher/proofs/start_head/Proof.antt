@@ -1,4 +1,4 @@
-use Rattle.dispatcher.specs.HeadLaws.{begun-is}
+use Rattle.dispatcher.proofs.LookLaws.{start-by}
 use borrow.Author.Needs.{needs}
 use Rattle.dispatcher.proofs.start_head.Statement.{statement}
 use Rattle.dispatcher.proofs.start_head.Tie as tie
@@ -13,7 +13,7 @@ same-length : tie.Need-same-length
 same-length c = search needs
 
 returns : tie.Need-returns
-returns c = begun-is _ _ _ (c .before .before .before .before .start-verdict .ensures) (c .before .before .begin .ensures)
+returns c = start-by _ _ _ (c .before .before .before .before .start-verdict .ensures) (c .before .before .begin .ensures)
 
 pub start-head-spec : {M : Type 1} → statement M
 start-head-spec = tie.close (tie.spec start-verdict-requires begin-requires same-length returns)

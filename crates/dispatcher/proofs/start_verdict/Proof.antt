@@ -1,4 +1,4 @@
-use Rattle.dispatcher.specs.HeadLaws.{right-state, wrong-state, no-tasks}
+use Rattle.dispatcher.proofs.LookLaws.{right-state, wrong-state, no-tasks}
 use borrow.Author.Needs.{needs}
 use Rattle.dispatcher.proofs.start_verdict.Statement.{statement}
 use Rattle.dispatcher.proofs.start_verdict.Tie as tie

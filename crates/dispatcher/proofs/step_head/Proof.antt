@@ -1,25 +1,13 @@
-use mathlib.Core.Path.{refl, sym}
-use Rattle.reader.specs.Turns.{taken-refused}
-use Rattle.dispatcher.specs.SetLaws.{timed-of, narrow}
-use Rattle.dispatcher.specs.HeadLaws.{no-head, head-found, head-left}
+use Rattle.dispatcher.proofs.LookLaws.{room-in-c, step-by}
 use borrow.Author.Needs.{needs}
 use Rattle.dispatcher.proofs.step_head.Statement.{statement}
 use Rattle.dispatcher.proofs.step_head.Tie as tie
 
-read-head-requires : tie.Need-read-head-requires
-read-head-requires c κs = search needs
+look-head-requires : tie.Need-look-head-requires
+look-head-requires c κs = search needs
 
-enum-told : tie.Need-enum-told
-enum-told c = search needs
-
-enum-known-f : tie.Need-enum-known-f
-enum-known-f c = search needs
-
-step-read-requires : tie.Need-step-read-requires
-step-read-requires c κs = λ e. let f = head-found _ _ _ (c .before .before .before .before .before .before .before .read-head .ensures) (c .before .before .before .before .before .f .given .1) refl e in (timed-of f, narrow f)
-
-returns : tie.Need-returns
-returns c = no-head _ _ _ _ _ (sym (taken-refused _ _ _ (c .before .before .read-head .ensures) (c .enum-told .given .1)))
+written-requires : tie.Need-written-requires
+written-requires c κs = λ a. room-in-c _ _ _ _ _ (c .before .before .look-head .ensures) a
 
 same-length : tie.Need-same-length
 same-length c = search needs
@@ -27,18 +15,9 @@ same-length c = search needs
 same-length-2 : tie.Need-same-length-2
 same-length-2 c = search needs
 
-returns-2 : tie.Need-returns-2
-returns-2 c = head-left _ _ _ (c .before .before .before .before .before .before .before .before .before .before .before .before .read-head .ensures) (c .before .before .before .before .before .before .before .before .before .before .f .given .1) refl _ _ _ _ (c .before .before .before .before .step-read .ensures)
+returns : tie.Need-returns
+returns c = step-by _ _ _ _ _ (c .before .before .before .before .before .before .before .look-head .ensures) (c .before .before .before .before .written .ensures)
 
 pub step-head-spec : {M : Type 1} → statement M
 step-head-spec =
-    tie.close
-    (tie.spec
-    read-head-requires
-    enum-told
-    enum-known-f
-    step-read-requires
-    returns
-    same-length
-    same-length-2
-    returns-2)
+    tie.close (tie.spec look-head-requires written-requires same-length same-length-2 returns)

@@ -1,6 +1,6 @@
 use mathlib.Core.Path.{refl}
 use mathlib.Core.List.{[]}
-use Rattle.evidence.specs.Places.{at-next}
+use Rattle.evidence.proofs.Places.{at-next}
 use borrow.Author.Needs.{needs}
 use Rattle.evidence.proofs.one_of.Statement.{statement}
 use Rattle.evidence.proofs.one_of.Tie as tie

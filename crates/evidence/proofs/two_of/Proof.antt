@@ -1,5 +1,5 @@
 use mathlib.Core.List.{[], _∷_}
-use Rattle.evidence.specs.Places.{at-next}
+use Rattle.evidence.proofs.Places.{at-next}
 use borrow.Author.Needs.{needs}
 use Rattle.evidence.proofs.two_of.Statement.{statement}
 use Rattle.evidence.proofs.two_of.Tie as tie

@@ -1,4 +1,5 @@
 use Rattle.judge.specs.Answers.{evidenceOf}
+use Rattle.dispatcher.specs.ForC.{startFor}
 use Rattle.flute.specs.Calls.{narrowed}
 use borrow.Author.Needs.{needs}
 use Rattle.flute.proofs.flute_start_evidence.Statement.{statement}
@@ -14,6 +15,7 @@ narrow-requires : tie.Need-narrow-requires
 narrow-requires c κs = search needs
 
 returns : tie.Need-returns
+unfolding startFor
 returns c = narrowed evidenceOf _ _ (c .before .before .start-verdict .ensures) (c .before .evidence-of .ensures) (c .narrow .ensures)
 
 pub flute-start-evidence-spec : {M : Type 1} → statement M

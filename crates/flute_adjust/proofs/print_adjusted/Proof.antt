@@ -4,8 +4,8 @@ use borrow.Author.Needs.{needs}
 use Rattle.flute_adjust.proofs.print_adjusted.Statement.{statement}
 use Rattle.flute_adjust.proofs.print_adjusted.Tie as tie
 
-cycle-of-requires : tie.Need-cycle-of-requires
-cycle-of-requires c κs = search needs
+counts-of-requires : tie.Need-counts-of-requires
+counts-of-requires c κs = search needs
 
 cast-n : tie.Need-cast-n
 cast-n c = search needs
@@ -35,7 +35,7 @@ pub print-adjusted-spec : {M : Type 1} → statement M
 print-adjusted-spec =
     tie.close
     (tie.spec
-    cycle-of-requires
+    counts-of-requires
     cast-n
     returns
     array-borrow-prefix-releases

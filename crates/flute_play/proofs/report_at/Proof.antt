@@ -1,6 +1,6 @@
 use native.Mathlib.Omega.{arith}
 use borrow.Author.Needs.{needs}
-use Rattle.dispatcher.specs.Wire.{Reading, read-from, read-room, read-on, read-end}
+use Rattle.dispatcher.proofs.ByteLoops.{Reading, read-from, read-room, read-on, read-end}
 use Rattle.flute_play.proofs.report_at.Statement.{statement}
 use Rattle.flute_play.proofs.report_at.Tie as tie
 
@@ -16,20 +16,20 @@ loop-holds c = read-from _ _ _
 mul-x : tie.Need-mul-x Inv-loop μ-loop
 mul-x c = omega (arith, read-room _ _ _ _ _ 0 (c .before .loop .inv) (c .loop-test .taken) (omega arith) (omega arith))
 
-sub-wide : tie.Need-sub-wide Inv-loop μ-loop
-sub-wide c = search needs
+sub-as-number : tie.Need-sub-as-number Inv-loop μ-loop
+sub-as-number c = search needs
 
-add-wide : tie.Need-add-wide Inv-loop μ-loop
-add-wide c = omega (arith, c .before .loop .inv .within, c .before .before .before .pre)
+add-as-number : tie.Need-add-as-number Inv-loop μ-loop
+add-as-number c = omega (arith, c .before .loop .inv .within, c .before .before .before .pre)
 
-shared-slice-read-wide : tie.Need-shared-slice-read-wide Inv-loop μ-loop
-shared-slice-read-wide c = omega (arith, c .before .before .loop .inv .within, c .before .before .before .before .pre)
+shared-slice-read-as-number : tie.Need-shared-slice-read-as-number Inv-loop μ-loop
+shared-slice-read-as-number c = omega (arith, c .before .before .loop .inv .within, c .before .before .before .before .pre)
 
-wide-requires : tie.Need-wide-requires Inv-loop μ-loop
-wide-requires c κs = search needs
+as-number-requires : tie.Need-as-number-requires Inv-loop μ-loop
+as-number-requires c κs = search needs
 
 add-x : tie.Need-add-x Inv-loop μ-loop
-add-x c = record { fits = read-room _ _ _ _ _ _ (c .before .before .before .loop .inv) (c .before .before .loop-test .taken) (omega arith) (c .wide .ensures .1) }
+add-x c = record { fits = read-room _ _ _ _ _ _ (c .before .before .before .loop .inv) (c .before .before .loop-test .taken) (omega arith) (c .as-number .ensures .1) }
 
 sub-k : tie.Need-sub-k Inv-loop μ-loop
 sub-k c = search needs
@@ -38,7 +38,7 @@ loop-less : tie.Need-loop-less Inv-loop μ-loop
 loop-less c = search needs
 
 loop-again : tie.Need-loop-again Inv-loop μ-loop
-loop-again c = read-on _ _ _ _ _ _ (c .before .before .before .loop .inv) (c .before .before .loop-test .taken) (c .wide .ensures .0) (c .wide .ensures .1)
+loop-again c = read-on _ _ _ _ _ _ (c .before .before .before .loop .inv) (c .before .before .loop-test .taken) (c .as-number .ensures .0) (c .as-number .ensures .1)
 
 returns : tie.Need-returns Inv-loop μ-loop
 returns c = read-end _ _ _ _ _ (c .before .loop .inv) (c .loop-test .left) .0
@@ -51,10 +51,10 @@ report-at-spec =
     μ-loop
     loop-holds
     mul-x
-    sub-wide
-    add-wide
-    shared-slice-read-wide
-    wide-requires
+    sub-as-number
+    add-as-number
+    shared-slice-read-as-number
+    as-number-requires
     add-x
     sub-k
     loop-less

@@ -4,10 +4,10 @@ use Rattle.flute_read.proofs.print_pairs.Statement.{statement}
 use Rattle.flute_read.proofs.print_pairs.Tie as tie
 
 abbrev Inv-loop : tie.InvT-loop
-Inv-loop start n first second k₀ x₀ k x = k ≤ n
+Inv-loop pairs start n k₀ x₀ k x = k ≤ n
 
 abbrev μ-loop : tie.MeasureT-loop
-μ-loop start n first second k₀ x₀ k x = n - k
+μ-loop pairs start n k₀ x₀ k x = n - k
 
 loop-holds : tie.Need-loop-holds Inv-loop μ-loop
 loop-holds c = search needs
@@ -15,17 +15,8 @@ loop-holds c = search needs
 returns : tie.Need-returns Inv-loop μ-loop
 returns c = search needs
 
-mul-print-pair : tie.Need-mul-print-pair Inv-loop μ-loop
-mul-print-pair c = search needs
-
-element-copy-out-print-pair : tie.Need-element-copy-out-print-pair Inv-loop μ-loop
-element-copy-out-print-pair c = search needs
-
-mul-print-pair-2 : tie.Need-mul-print-pair-2 Inv-loop μ-loop
-mul-print-pair-2 c = search needs
-
-element-copy-out-print-pair-2 : tie.Need-element-copy-out-print-pair-2 Inv-loop μ-loop
-element-copy-out-print-pair-2 c = search needs
+pair-at-requires : tie.Need-pair-at-requires Inv-loop μ-loop
+pair-at-requires c κs = search needs
 
 print-pair-requires : tie.Need-print-pair-requires Inv-loop μ-loop
 print-pair-requires c κs = search needs
@@ -53,10 +44,7 @@ print-pairs-spec =
     μ-loop
     loop-holds
     returns
-    mul-print-pair
-    element-copy-out-print-pair
-    mul-print-pair-2
-    element-copy-out-print-pair-2
+    pair-at-requires
     print-pair-requires
     add-x
     add-k

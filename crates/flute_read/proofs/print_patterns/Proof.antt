@@ -4,52 +4,46 @@ use Rattle.flute_read.proofs.print_patterns.Statement.{statement}
 use Rattle.flute_read.proofs.print_patterns.Tie as tie
 
 abbrev Inv-loop : tie.InvT-loop
-Inv-loop n from to pairs first second k₀ x₀ t10 k x = k ≤ n
+Inv-loop headings pairs n k₀ x₀ t8 k x = k ≤ n
 
 abbrev μ-loop : tie.MeasureT-loop
-μ-loop n from to pairs first second k₀ x₀ t10 k x = n - k
+μ-loop headings pairs n k₀ x₀ t8 k x = n - k
 
-slice-aggregate-write-all : tie.Need-slice-aggregate-write-all Inv-loop μ-loop
-slice-aggregate-write-all c = search needs
+new-requires : tie.Need-new-requires Inv-loop μ-loop
+new-requires c κs = search needs
 
-write-all-requires : tie.Need-write-all-requires Inv-loop μ-loop
-write-all-requires c κs = search needs
+slice-aggregate-put : tie.Need-slice-aggregate-put Inv-loop μ-loop
+slice-aggregate-put c = search needs
+
+put-requires : tie.Need-put-requires Inv-loop μ-loop
+put-requires c κs = search needs
+
+print-requires : tie.Need-print-requires Inv-loop μ-loop
+print-requires c κs = search needs
 
 loop-holds : tie.Need-loop-holds Inv-loop μ-loop
 loop-holds c = search needs
 
-returns : tie.Need-returns Inv-loop μ-loop
-returns c = search needs
-
-mul-print-pattern : tie.Need-mul-print-pattern Inv-loop μ-loop
-mul-print-pattern c = search needs
-
-element-copy-out-print-pattern : tie.Need-element-copy-out-print-pattern Inv-loop μ-loop
-element-copy-out-print-pattern c = search needs
-
-mul-print-pattern-2 : tie.Need-mul-print-pattern-2 Inv-loop μ-loop
-mul-print-pattern-2 c = search needs
-
-element-copy-out-print-pattern-2 : tie.Need-element-copy-out-print-pattern-2 Inv-loop μ-loop
-element-copy-out-print-pattern-2 c = search needs
+pattern-at-requires : tie.Need-pattern-at-requires Inv-loop μ-loop
+pattern-at-requires c κs = search needs
 
 print-pattern-requires : tie.Need-print-pattern-requires Inv-loop μ-loop
 print-pattern-requires c κs = search needs
 
-mul-print-pairs : tie.Need-mul-print-pairs Inv-loop μ-loop
-mul-print-pairs c = search needs
-
-element-copy-out-print-pairs : tie.Need-element-copy-out-print-pairs Inv-loop μ-loop
-element-copy-out-print-pairs c = search needs
-
 print-pairs-requires : tie.Need-print-pairs-requires Inv-loop μ-loop
 print-pairs-requires c κs = search needs
 
-slice-aggregate-write-all-2 : tie.Need-slice-aggregate-write-all-2 Inv-loop μ-loop
-slice-aggregate-write-all-2 c = search needs
+new-requires-2 : tie.Need-new-requires-2 Inv-loop μ-loop
+new-requires-2 c κs = search needs
 
-write-all-requires-2 : tie.Need-write-all-requires-2 Inv-loop μ-loop
-write-all-requires-2 c κs = search needs
+slice-aggregate-put-2 : tie.Need-slice-aggregate-put-2 Inv-loop μ-loop
+slice-aggregate-put-2 c = search needs
+
+put-requires-2 : tie.Need-put-requires-2 Inv-loop μ-loop
+put-requires-2 c κs = search needs
+
+print-requires-2 : tie.Need-print-requires-2 Inv-loop μ-loop
+print-requires-2 c κs = search needs
 
 add-k : tie.Need-add-k Inv-loop μ-loop
 add-k c = search needs
@@ -60,8 +54,8 @@ loop-less c = search needs
 loop-again : tie.Need-loop-again Inv-loop μ-loop
 loop-again c = search needs
 
-returns-2 : tie.Need-returns-2 Inv-loop μ-loop
-returns-2 c = search needs
+returns : tie.Need-returns Inv-loop μ-loop
+returns c = search needs
 
 pub print-patterns-spec : {M : Type 1} → statement M
 print-patterns-spec =
@@ -69,21 +63,19 @@ print-patterns-spec =
     (tie.spec
     Inv-loop
     μ-loop
-    slice-aggregate-write-all
-    write-all-requires
+    new-requires
+    slice-aggregate-put
+    put-requires
+    print-requires
     loop-holds
-    returns
-    mul-print-pattern
-    element-copy-out-print-pattern
-    mul-print-pattern-2
-    element-copy-out-print-pattern-2
+    pattern-at-requires
     print-pattern-requires
-    mul-print-pairs
-    element-copy-out-print-pairs
     print-pairs-requires
-    slice-aggregate-write-all-2
-    write-all-requires-2
+    new-requires-2
+    slice-aggregate-put-2
+    put-requires-2
+    print-requires-2
     add-k
     loop-less
     loop-again
-    returns-2)
+    returns)

@@ -4,20 +4,11 @@ use borrow.Author.Needs.{needs}
 use Rattle.flute_screen.proofs.put_times.Statement.{statement}
 use Rattle.flute_screen.proofs.put_times.Tie as tie
 
-cycle-of-requires : tie.Need-cycle-of-requires
-cycle-of-requires c κs = search needs
+counts-of-requires : tie.Need-counts-of-requires
+counts-of-requires c κs = search needs
 
 cast-n : tie.Need-cast-n
 cast-n c = search needs
-
-slice-aggregate-put : tie.Need-slice-aggregate-put
-slice-aggregate-put c = search needs
-
-put-requires : tie.Need-put-requires
-put-requires c κs = search needs
-
-same-length : tie.Need-same-length
-same-length c = search needs
 
 returns : tie.Need-returns
 returns c = search needs
@@ -40,9 +31,6 @@ slice-aggregate-put-times-by-2 c = sym (taken _ 2048 _ refl (c .before .before .
 put-times-by-requires : tie.Need-put-times-by-requires
 put-times-by-requires c κs = search needs
 
-same-length-2 : tie.Need-same-length-2
-same-length-2 c = search needs
-
 returns-2 : tie.Need-returns-2
 returns-2 c = search needs
 
@@ -50,11 +38,8 @@ pub put-times-spec : {M : Type 1} → statement M
 put-times-spec =
     tie.close
     (tie.spec
-    cycle-of-requires
+    counts-of-requires
     cast-n
-    slice-aggregate-put
-    put-requires
-    same-length
     returns
     place-of-requires
     array-borrow-prefix-releases
@@ -62,5 +47,4 @@ put-times-spec =
     array-borrow-prefix-deadlines
     slice-aggregate-put-times-by-2
     put-times-by-requires
-    same-length-2
     returns-2)

@@ -1,27 +1,27 @@
-use mathlib.Core.Path.{ap, _∙_}
-use Rattle.vocabulary.specs.More.{stopped, passed}
-use Rattle.judge.specs.Ways.{bad-set, set-held, held-verdict}
+use mathlib.Core.Path.{_∙_}
+use Rattle.kinds.specs.SoundByTests.{counts-none, counts-found}
+use Rattle.judge.proofs.VerdictChain.{bad-set, lent-found, lent-verdict}
 use borrow.Author.Needs.{needs}
 use Rattle.judge.proofs.judge.Statement.{statement}
 use Rattle.judge.proofs.judge.Tie as tie
 
-is-sound-requires : tie.Need-is-sound-requires
-is-sound-requires c κs = search needs
+counts-of-requires : tie.Need-counts-of-requires
+counts-of-requires c κs = search needs
 
 returns : tie.Need-returns
-returns c = bad-set _ _ (stopped (c .before .is-sound .ensures) (c .if1 .taken))
+returns c = bad-set _ _ (counts-none _ (c .before .before .counts-of .ensures) (c .if1 .taken))
 
-cycle-of-requires : tie.Need-cycle-of-requires
-cycle-of-requires c κs = search needs
-
-judge-lent-requires : tie.Need-judge-lent-requires
-judge-lent-requires c κs = set-held _ _ (passed (c .before .before .before .before .before .before .before .before .before .before .before .before .before .before .before .before .before .before .before .before .before .is-sound .ensures) (c .before .before .before .before .before .before .before .before .before .before .before .before .before .before .before .before .before .before .before .before .if1 .left)) (ap (λ z. z .ticks) (c .before .before .before .before .before .before .before .before .before .cycle-of .ensures))
+judge-tables-requires : tie.Need-judge-tables-requires
+judge-tables-requires c κs = lent-found _ (counts-found _ (c .before .before .before .before .before .before .counts-of .ensures) (c .before .before .before .before .if1 .left))
 
 returns-2 : tie.Need-returns-2
-returns-2 c =
-    let s = passed (c .before .before .before .before .before .before .before .before .before .before .before .before .before .before .before .before .before .before .before .before .before .before .is-sound .ensures) (c .before .before .before .before .before .before .before .before .before .before .before .before .before .before .before .before .before .before .before .before .before .if1 .left) in
-    c .judge-lent .ensures ∙ held-verdict _ _ _ s (set-held _ _ s (ap (λ z. z .ticks) (c .before .before .before .before .before .before .before .before .before .before .cycle-of .ensures)) .ticks)
+returns-2 c = c .judge-tables .ensures ∙ lent-verdict _ (counts-found _ (c .before .before .before .before .before .before .before .counts-of .ensures) (c .before .before .before .before .before .if1 .left)) _
 
 pub judge-spec : {M : Type 1} → statement M
 judge-spec =
-    tie.close (tie.spec is-sound-requires returns cycle-of-requires judge-lent-requires returns-2)
+    tie.close
+    (tie.spec
+    counts-of-requires
+    returns
+    judge-tables-requires
+    returns-2)

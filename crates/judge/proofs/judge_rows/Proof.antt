@@ -1,72 +1,52 @@
-use mathlib.Core.Path.{refl, _∙_}
-use borrow.Author.Tests.{not-true, not-false}
-use Rattle.judge.specs.Starts.{opened-based, opened-ready, long-made, empty-made}
-use Rattle.judge.specs.Asked.{fit-times, ticks-times, countable}
-use Rattle.judge.specs.Ways.{swept-bad, counted, one-wrong, wrong-found, linked, none-wrong}
+use native.Mathlib.Omega.{arith}
+use mathlib.Core.Path.{refl}
+use Rattle.judge.proofs.NeedLaws.{countable}
+use Rattle.judge.proofs.VerdictChain.{worded, swept-bad, swept-good, counted}
+use borrow.Author.Needs.{needs}
 use Rattle.judge.proofs.judge_rows.Statement.{statement}
 use Rattle.judge.proofs.judge_rows.Tie as tie
 
-fill-starts-requires : tie.Need-fill-starts-requires
-fill-starts-requires c κs = (countable _ _ _ (c .before .before .before .pre .0), refl, long-made)
+put-first-jobs-requires : tie.Need-put-first-jobs-requires
+put-first-jobs-requires c κs = (countable _ _ (c .before .before .pre .1), refl)
 
 sweep-requires : tie.Need-sweep-requires
-sweep-requires c κs = let s = c .before .before .before .before .before .before .before .before in
-    let w = c .before .before .before .before .fill-starts .ensures in
-    let e = ticks-times _ _ _ (s .pre .0) in
-    (fit-times _ _ (s .pre .1), opened-based _ _ _ _ _ w e, opened-ready _ _ _ _ _ w e _ long-made empty-made)
+sweep-requires c κs = (c .before .before .before .before .before .pre .1, c .before .before .put-first-jobs .ensures, c .before .before .before .before .before .pre .2)
+
+cast-misplaced : tie.Need-cast-misplaced
+cast-misplaced c = search needs
 
 misplaced-requires : tie.Need-misplaced-requires
-misplaced-requires c κs = (fit-times _ _ (c .before .before .before .before .before .before .before .before .before .before .pre .1), c .before .sweep .ensures .bad (not-true _ (c .if1 .taken)))
+misplaced-requires c κs = let f = c .before .before .before .before .before .before .before .before .before .pre .1 in
+    (worded _ _ f, f .some-processors, f .few-processors, omega (arith, c .before .if1 .taken, f .long))
+
+same-length : tie.Need-same-length
+same-length c = search needs
 
 returns : tie.Need-returns
-returns c = c .misplaced .ensures ∙ swept-bad _ _ _ _ _ _ _ (c .before .before .sweep .ensures) (not-true _ (c .before .if1 .taken))
+returns c = let w = c .before .before .before .before .sweep .ensures in
+    swept-bad _ _ _ (c .before .before .before .before .before .before .before .before .before .before .pre .1) _ _ w (c .before .before .if1 .taken) (c .misplaced .ensures _ (w .bad (c .before .before .if1 .taken)))
 
-wrong-task-requires : tie.Need-wrong-task-requires
-wrong-task-requires c κs = let s = c .before .before .before .before .before .before .before .before .before .before .before .before .before .before in
-    let g = opened-based _ _ _ _ _ (c .before .before .before .before .before .before .before .before .before .before .fill-starts .ensures) (s .pre .0 .ticks) in
-    let w = c .before .before .before .before .before .sweep .ensures in
-    let e = not-false _ (c .before .before .before .before .if1 .left) in
-    counted _ _ _ _ _ _ _ _ (s .pre .0) (s .pre .1) g w e
+judge-counts-requires : tie.Need-judge-counts-requires
+judge-counts-requires c κs = counted _ _ _ (c .before .before .before .before .before .before .before .before .before .before .pre .1) _ _ (c .before .before .before .before .sweep .ensures) (c .before .before .if1 .left) (c .before .before .before .before .before .before .before .before .before .before .pre .0) (c .before .before .before .before .before .before .before .put-first-jobs .ensures)
 
-wrong-count-requires : tie.Need-wrong-count-requires
-wrong-count-requires c κs = let s = c .before .before .before .before .before .before .before .before .before .before .before .before .before .before .before .before .before .before .before .before in
-    let g = opened-based _ _ _ _ _ (c .before .before .before .before .before .before .before .before .before .before .before .before .before .before .before .before .fill-starts .ensures) (s .pre .0 .ticks) in
-    let w = c .before .before .before .before .before .before .before .before .before .before .before .sweep .ensures in
-    let e = not-false _ (c .before .before .before .before .before .before .before .before .before .before .if1 .left) in
-    one-wrong _ _ _ _ _ _ _ _ (s .pre .0) (s .pre .1) g w e (c .before .before .before .before .before .wrong-task .ensures (counted _ _ _ _ _ _ _ _ (s .pre .0) (s .pre .1) g w e)) (c .before .before .before .before .if2 .taken)
+same-length-2 : tie.Need-same-length-2
+same-length-2 c = search needs
 
 returns-2 : tie.Need-returns-2
-returns-2 c = let s = c .before .before .before .before .before .before .before .before .before .before .before .before .before .before .before .before .before .before .before .before .before in
-    let g = opened-based _ _ _ _ _ (c .before .before .before .before .before .before .before .before .before .before .before .before .before .before .before .before .before .fill-starts .ensures) (s .pre .0 .ticks) in
-    let w = c .before .before .before .before .before .before .before .before .before .before .before .before .sweep .ensures in
-    let e = not-false _ (c .before .before .before .before .before .before .before .before .before .before .before .if1 .left) in
-    c .wrong-count .ensures (counted _ _ _ _ _ _ _ _ (s .pre .0) (s .pre .1) g w e) (c .before .before .before .before .before .if2 .taken) ∙ wrong-found _ _ _ _ _ _ _ _ (s .pre .0) (s .pre .1) g w e (c .before .before .before .before .before .before .wrong-task .ensures (counted _ _ _ _ _ _ _ _ (s .pre .0) (s .pre .1) g w e)) (c .before .before .before .before .before .if2 .taken)
-
-judge-links-requires : tie.Need-judge-links-requires
-judge-links-requires c κs = let s = c .before .before .before .before .before .before .before .before .before .before .before .before .before .before .before .before .before .before .before .before in
-    let g = opened-based _ _ _ _ _ (c .before .before .before .before .before .before .before .before .before .before .before .before .before .before .before .before .fill-starts .ensures) (s .pre .0 .ticks) in
-    let w = c .before .before .before .before .before .before .before .before .before .before .before .sweep .ensures in
-    let e = not-false _ (c .before .before .before .before .before .before .before .before .before .before .if1 .left) in
-    linked _ _ _ _ _ _ _ _ (s .pre .0) (s .pre .1) g w e (c .before .before .before .before .before .wrong-task .ensures (counted _ _ _ _ _ _ _ _ (s .pre .0) (s .pre .1) g w e)) (c .before .before .before .before .if2 .left)
-
-returns-3 : tie.Need-returns-3
-returns-3 c = let s = c .before .before .before .before .before .before .before .before .before .before .before .before .before .before .before .before .before .before .before .before .before in
-    let g = opened-based _ _ _ _ _ (c .before .before .before .before .before .before .before .before .before .before .before .before .before .before .before .before .before .fill-starts .ensures) (s .pre .0 .ticks) in
-    let w = c .before .before .before .before .before .before .before .before .before .before .before .before .sweep .ensures in
-    let e = not-false _ (c .before .before .before .before .before .before .before .before .before .before .before .if1 .left) in
-    let i = c .before .before .before .before .before .before .wrong-task .ensures (counted _ _ _ _ _ _ _ _ (s .pre .0) (s .pre .1) g w e) in
-    c .judge-links .ensures (linked _ _ _ _ _ _ _ _ (s .pre .0) (s .pre .1) g w e i (c .before .before .before .before .before .if2 .left)) ∙ none-wrong _ _ _ _ _ _ _ _ (s .pre .0) (s .pre .1) g w e i (c .before .before .before .before .before .if2 .left)
+returns-2 c = let w = c .before .before .before .before .before .sweep .ensures in
+    let l = c .before .before .before .if1 .left in
+    swept-good _ _ _ (c .before .before .before .before .before .before .before .before .before .before .before .pre .1) _ _ w l (c .judge-counts .ensures (counted _ _ _ (c .before .before .before .before .before .before .before .before .before .before .before .pre .1) _ _ w l (c .before .before .before .before .before .before .before .before .before .before .before .pre .0) (c .before .before .before .before .before .before .before .before .put-first-jobs .ensures)))
 
 pub judge-rows-spec : {M : Type 1} → statement M
 judge-rows-spec =
     tie.close
     (tie.spec
-    fill-starts-requires
+    put-first-jobs-requires
     sweep-requires
+    cast-misplaced
     misplaced-requires
+    same-length
     returns
-    wrong-task-requires
-    wrong-count-requires
-    returns-2
-    judge-links-requires
-    returns-3)
+    judge-counts-requires
+    same-length-2
+    returns-2)

@@ -1,11 +1,11 @@
 use mathlib.Core.Path.{_∙_}
 use native.Mathlib.Omega.{arith}
-use Rattle.vocabulary.specs.More.{stopped, passed}
+use Rattle.vocabulary.specs.StopsAndZeros.{stopped, passed}
 use Rattle.vocabulary.specs.Test.{and-false}
 use Rattle.vocabulary.specs.Multiple.{lcm-comm}
 use Rattle.kinds.specs.Limits.{holds, periods}
 use Rattle.kinds.specs.Cycle.{multipleOf}
-use Rattle.kinds.specs.Laws.{holds-at}
+use Rattle.kinds.specs.RangeLaws.{holds-at}
 use borrow.Author.Needs.{needs}
 use Rattle.kinds.proofs.common_multiple.Statement.{statement}
 use Rattle.kinds.proofs.common_multiple.Tie as tie

@@ -1,6 +1,6 @@
 use native.Mathlib.Omega.{arith}
 use borrow.Author.Tests.{eq-eqb, ne-eqb, le-leb}
-use Rattle.vocabulary.specs.More.{stopped, passed}
+use Rattle.vocabulary.specs.StopsAndZeros.{stopped, passed}
 use Rattle.kinds.specs.Sound.{headingFits}
 use borrow.Author.Needs.{needs}
 use Rattle.kinds.proofs.heading_fits.Statement.{statement}

@@ -1,4 +1,4 @@
-use Rattle.vocabulary.specs.More.{stopped, passed}
+use Rattle.vocabulary.specs.StopsAndZeros.{stopped, passed}
 use Rattle.kinds.specs.Limits.{rises}
 use borrow.Author.Needs.{needs}
 use Rattle.kinds.proofs.is_rising.Statement.{statement}

@@ -1,7 +1,7 @@
 use native.Mathlib.Omega.{arith}
-use Rattle.vocabulary.specs.More.{stopped, passed}
+use Rattle.vocabulary.specs.StopsAndZeros.{stopped, passed}
 use Rattle.kinds.specs.Sound.{openingFits}
-use Rattle.kinds.specs.Laws.{holds-low, holds-high, holds-yes}
+use Rattle.kinds.specs.RangeLaws.{holds-low, holds-high, holds-yes}
 use borrow.Author.Needs.{needs}
 use Rattle.kinds.proofs.opening_fits.Statement.{statement}
 use Rattle.kinds.proofs.opening_fits.Tie as tie

@@ -2,23 +2,29 @@ use mathlib.Core.Path.{_≡_, sym, _∙_, ap}
 use Prim.Native.Nat.{_-_, _*_, _≤_}
 use native.Mathlib.Nat.{le-antisymm}
 use native.Mathlib.Omega.{arith}
-use Rattle.kinds.specs.Build.{pairsIn}
-use Rattle.kinds.specs.Laws.{pairs-none, pairs-more}
+use Rattle.kinds.specs.Tasks.{pairsIn}
+use Rattle.kinds.specs.RangeLaws.{pairs-none, pairs-more}
 use borrow.Author.Needs.{needs}
 use Rattle.kinds.proofs.pairs_in.Statement.{statement}
 use Rattle.kinds.proofs.pairs_in.Tie as tie
 
 abbrev Inv-loop : tie.InvT-loop
-Inv-loop pairs n total₀ k₀ total k = (k ≤ n) × (total ≡ pairsIn pairs k) × (total ≤ 4294967295 * k)
+Inv-loop headings n total₀ k₀ total k = (k ≤ n) × (total ≡ pairsIn headings k) × (total ≤ 4294967295 * k)
 
 abbrev μ-loop : tie.MeasureT-loop
-μ-loop pairs n total₀ k₀ total k = n - k
+μ-loop headings n total₀ k₀ total k = n - k
 
 loop-holds : tie.Need-loop-holds Inv-loop μ-loop
 loop-holds c = (search needs, sym (pairs-none _), search needs)
 
 mul-wide : tie.Need-mul-wide Inv-loop μ-loop
-mul-wide c = search needs
+mul-wide c = omega (arith, c .before .before .pre)
+
+add-wide : tie.Need-add-wide Inv-loop μ-loop
+add-wide c = omega (arith, c .before .before .pre)
+
+mul-wide-2 : tie.Need-mul-wide-2 Inv-loop μ-loop
+mul-wide-2 c = search needs
 
 element-copy-out-wide : tie.Need-element-copy-out-wide Inv-loop μ-loop
 element-copy-out-wide c = omega (arith, c .before .before .pre)
@@ -51,6 +57,8 @@ pairs-in-spec =
     μ-loop
     loop-holds
     mul-wide
+    add-wide
+    mul-wide-2
     element-copy-out-wide
     wide-requires
     add-total

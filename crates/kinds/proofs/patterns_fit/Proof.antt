@@ -1,21 +1,23 @@
 use Prim.Native.Nat.{_-_}
 use native.Mathlib.Omega.{arith}
-use Rattle.vocabulary.specs.More.{stopped, passed}
-use Rattle.kinds.specs.Tasks.{patternsOf}
-use Rattle.kinds.specs.Cycle.{onlyPeriods}
-use Rattle.kinds.specs.Walk.{Walking, walk-from, walk-heading, walk-pairs, walk-on, heading-facts, tested-no, tested-yes}
+use Rattle.vocabulary.specs.StopsAndZeros.{stopped, passed}
+use Rattle.kinds.specs.Tasks.{tasksOf, patternsOf}
+use Rattle.kinds.proofs.PatternWalk.{Walking, walk-from, walk-heading, walk-pairs, walk-on, heading-facts, tested-no, tested-yes}
 use borrow.Author.Needs.{needs}
 use Rattle.kinds.proofs.patterns_fit.Statement.{statement}
 use Rattle.kinds.proofs.patterns_fit.Tie as tie
 
 abbrev Inv-loop : tie.InvT-loop
-Inv-loop edition tasks h period n from to pairs first second low₀ used₀ links₀ k₀ low used links k = Walking edition (onlyPeriods period tasks) (patternsOf n from to pairs first second) k low used links
+Inv-loop edition tasks h n attributes headings pairs low₀ used₀ links₀ k₀ low used links k = Walking edition (tasksOf tasks attributes) (patternsOf n headings pairs) k low used links
 
 abbrev μ-loop : tie.MeasureT-loop
-μ-loop edition tasks h period n from to pairs first second low₀ used₀ links₀ k₀ low used links k = n - k
+μ-loop edition tasks h n attributes headings pairs low₀ used₀ links₀ k₀ low used links k = n - k
 
 loop-holds : tie.Need-loop-holds Inv-loop μ-loop
 loop-holds c = walk-from _ _ _
+
+mul-at : tie.Need-mul-at Inv-loop μ-loop
+mul-at c = omega (arith, c .before .before .pre .patterns)
 
 mul-x : tie.Need-mul-x Inv-loop μ-loop
 mul-x c = search needs
@@ -23,11 +25,17 @@ mul-x c = search needs
 element-copy-out-x : tie.Need-element-copy-out-x Inv-loop μ-loop
 element-copy-out-x c = omega (arith, c .before .before .pre .patterns)
 
+add-y : tie.Need-add-y Inv-loop μ-loop
+add-y c = omega (arith, c .before .before .before .pre .patterns)
+
 mul-y : tie.Need-mul-y Inv-loop μ-loop
 mul-y c = search needs
 
 element-copy-out-y : tie.Need-element-copy-out-y Inv-loop μ-loop
 element-copy-out-y c = omega (arith, c .before .before .before .pre .patterns)
+
+add-c : tie.Need-add-c Inv-loop μ-loop
+add-c c = omega (arith, c .before .before .before .before .pre .patterns)
 
 mul-c : tie.Need-mul-c Inv-loop μ-loop
 mul-c c = search needs
@@ -45,7 +53,12 @@ wide-requires : tie.Need-wide-requires Inv-loop μ-loop
 wide-requires c κs = search needs
 
 mul-spans-of : tie.Need-mul-spans-of Inv-loop μ-loop
-mul-spans-of c = search needs
+mul-spans-of c =
+    let f = heading-facts _ _ _ _ _ _ (passed (c .before .before .heading-fits .ensures) (c .before .if1 .left)) in
+    omega (arith, f .from-low, c .wide .ensures, c .before .before .before .before .before .before .before .before .pre .tasks)
+
+mul-spans-of-2 : tie.Need-mul-spans-of-2 Inv-loop μ-loop
+mul-spans-of-2 c = search needs
 
 element-copy-out-spans-of : tie.Need-element-copy-out-spans-of Inv-loop μ-loop
 element-copy-out-spans-of c =
@@ -55,8 +68,13 @@ element-copy-out-spans-of c =
 wide-requires-2 : tie.Need-wide-requires-2 Inv-loop μ-loop
 wide-requires-2 c κs = search needs
 
-mul-spans-of-2 : tie.Need-mul-spans-of-2 Inv-loop μ-loop
-mul-spans-of-2 c = search needs
+mul-spans-of-3 : tie.Need-mul-spans-of-3 Inv-loop μ-loop
+mul-spans-of-3 c =
+    let f = heading-facts _ _ _ _ _ _ (passed (c .before .before .before .before .heading-fits .ensures) (c .before .before .before .if1 .left)) in
+    omega (arith, f .to-low, c .wide2 .ensures, c .before .before .before .before .before .before .before .before .before .before .pre .tasks)
+
+mul-spans-of-4 : tie.Need-mul-spans-of-4 Inv-loop μ-loop
+mul-spans-of-4 c = search needs
 
 element-copy-out-spans-of-2 : tie.Need-element-copy-out-spans-of-2 Inv-loop μ-loop
 element-copy-out-spans-of-2 c =
@@ -124,19 +142,24 @@ patterns-fit-spec =
     Inv-loop
     μ-loop
     loop-holds
+    mul-at
     mul-x
     element-copy-out-x
+    add-y
     mul-y
     element-copy-out-y
+    add-c
     mul-c
     element-copy-out-c
     heading-fits-requires
     returns
     wide-requires
     mul-spans-of
+    mul-spans-of-2
     element-copy-out-spans-of
     wide-requires-2
-    mul-spans-of-2
+    mul-spans-of-3
+    mul-spans-of-4
     element-copy-out-spans-of-2
     spans-of-requires
     wide-requires-3

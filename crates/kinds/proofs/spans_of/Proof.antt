@@ -1,6 +1,6 @@
 use Rattle.vocabulary.specs.Test.{both}
 use Rattle.kinds.specs.Limits.{holds, periods}
-use Rattle.kinds.specs.Laws.{holds-at, multiple-some, spans-none, spans-some}
+use Rattle.kinds.specs.RangeLaws.{holds-at, multiple-some, spans-none, spans-some}
 use borrow.Author.Needs.{needs}
 use Rattle.kinds.proofs.spans_of.Statement.{statement}
 use Rattle.kinds.proofs.spans_of.Tie as tie

@@ -36,13 +36,13 @@ use denote.Triple.Table.{entered, cited}
 use denote.Triple.Walked.{says, Stays, stay-none-slice, walkOf, goes-none-slice, Walks, ends-at, walked, walk-meets}
 use denote.Exit.{yes}
 use denote.Triple.Clauses.{ensured, lasts}
-use Rattle.reader.specs.Numbers.{numberAt}
+use Rattle.numbers.specs.Numbers.{numberAt}
 use Rattle.place.specs.declared.Place.{Place}
-use Rattle.reader.specs.declared.Number.{Number}
+use Rattle.numbers.specs.declared.Number.{Number}
 use Rattle.place.proofs.Place as T
 use Rattle.place.proofs.Place.Laws as T′
-use Rattle.reader.proofs.Number as S
-use Rattle.reader.proofs.Number.Laws as S′
+use Rattle.numbers.proofs.Number as S
+use Rattle.numbers.proofs.Number.Laws as S′
 use Rattle.place.proofs.new as new
 use Rattle.place.proofs.new.Symbol as new-def
 use Rattle.place.proofs.new.Symbol.{name as #place·new}

@@ -1,5 +1,5 @@
 use mathlib.Core.Path.{_∙_}
-use Rattle.reader.specs.Turns.{closed-stopped, closed-whole}
+use Rattle.reader.proofs.Ways.{closed-stopped, closed-whole}
 use borrow.Author.Needs.{needs}
 use Rattle.reader.proofs.close_file.Statement.{statement}
 use Rattle.reader.proofs.close_file.Tie as tie

@@ -1,4 +1,4 @@
-use Rattle.reader.specs.Turns.{ended-stopped, ended-whole}
+use Rattle.reader.proofs.Ways.{ended-stopped, ended-whole}
 use borrow.Author.Needs.{needs}
 use Rattle.reader.proofs.end_file.Statement.{statement}
 use Rattle.reader.proofs.end_file.Tie as tie

@@ -1,5 +1,5 @@
 use mathlib.Core.Path.{_∙_}
-use Rattle.reader.specs.Turns.{read-refused, read-closed}
+use Rattle.reader.proofs.Ways.{read-refused, read-closed}
 use borrow.Author.Needs.{needs}
 use Rattle.reader.proofs.read.Statement.{statement}
 use Rattle.reader.proofs.read.Tie as tie

@@ -1,4 +1,4 @@
-use Rattle.reader.specs.Turns.{answer-refused, answer-ended}
+use Rattle.reader.proofs.Ways.{answer-refused, answer-ended}
 use borrow.Author.Needs.{needs}
 use Rattle.reader.proofs.read_outcome.Statement.{statement}
 use Rattle.reader.proofs.read_outcome.Tie as tie

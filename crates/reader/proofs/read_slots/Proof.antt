@@ -4,7 +4,7 @@ use native.Mathlib.Nat.{sub-zero}
 use native.Mathlib.Omega.{arith}
 use borrow.Author.Tests.{le-leb, lt-leb, lt-ltb, le-ltb}
 use Rattle.reader.specs.Files.{slotsFrom}
-use Rattle.reader.specs.Turns.{slots-step, slots-none}
+use Rattle.reader.proofs.Ways.{slots-step, slots-none}
 use borrow.Author.Needs.{needs}
 use Rattle.reader.proofs.read_slots.Statement.{statement}
 use Rattle.reader.proofs.read_slots.Tie as tie

@@ -1,5 +1,5 @@
 use mathlib.Core.Path.{_∙_}
-use Rattle.reader.specs.Turns.{taken-refused, taken-closed}
+use Rattle.reader.proofs.Ways.{taken-refused, taken-closed}
 use borrow.Author.Needs.{needs}
 use Rattle.reader.proofs.take_head.Statement.{statement}
 use Rattle.reader.proofs.take_head.Tie as tie

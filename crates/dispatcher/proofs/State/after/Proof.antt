@@ -1,7 +1,7 @@
 use borrow.Author.Needs.{needs}
 use borrow.Author.Tests.{lt-ltb, le-ltb}
 use Rattle.vocabulary.specs.Test.{and-true, and-false}
-use Rattle.dispatcher.specs.Tables.{afterOf}
+use Rattle.dispatcher.specs.Steps.{afterOf}
 use Rattle.dispatcher.proofs.State.after.Statement.{statement}
 use Rattle.dispatcher.proofs.State.after.Tie as tie
 

@@ -1,6 +1,6 @@
 use mathlib.Core.Path.{_∙_}
 use borrow.Author.Needs.{needs}
-use Rattle.dispatcher.specs.Wire.{bool-byte, tick-byte, done-byte, ran-byte}
+use Rattle.dispatcher.proofs.ByteLoops.{bool-byte, tick-byte, done-byte, ran-byte}
 use Rattle.dispatcher.proofs.State.byte_at.Statement.{statement}
 use Rattle.dispatcher.proofs.State.byte_at.Tie as tie
 

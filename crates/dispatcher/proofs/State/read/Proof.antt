@@ -20,7 +20,7 @@ number-in-requires-3 c κs = search needs
 
 returns : tie.Need-returns
 unfolding stateOf
-returns c = rw (← c .before .before .before .number-in .ensures .0, ← c .before .before .byte-in .ensures .0, ← c .before .number-in2 .ensures .0, ← c .number-in3 .ensures .0)
+returns c = rw (← c .before .before .before .number-in .ensures .0, ← c .before .before .byte-in .ensures, ← c .before .number-in2 .ensures .0, ← c .number-in3 .ensures .0)
 
 pub read-spec : {M : Type 1} → statement M
 read-spec =

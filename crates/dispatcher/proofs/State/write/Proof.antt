@@ -3,7 +3,7 @@ use lib.ListN.{getD}
 use borrow.Author.Needs.{needs}
 use Rattle.vocabulary.specs.Table.{Filling, fill-from, fill-on, filled-table, is}
 use Rattle.dispatcher.specs.Bytes.{bytesOf}
-use Rattle.dispatcher.specs.Wire.{written, not-written}
+use Rattle.dispatcher.proofs.ByteLoops.{written, not-written}
 use Rattle.dispatcher.proofs.State.write.Statement.{statement}
 use Rattle.dispatcher.proofs.State.write.Tie as tie
 

@@ -1,4 +1,4 @@
-use Rattle.flute.specs.AdjustCalls.{numbered}
+use Rattle.flute.specs.Calls.{numbered}
 use borrow.Author.Needs.{needs}
 use Rattle.flute.proofs.adjust.flute_adjust.Statement.{statement}
 use Rattle.flute.proofs.adjust.flute_adjust.Tie as tie

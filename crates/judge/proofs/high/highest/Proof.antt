@@ -1,6 +1,7 @@
 use Prim.Native.Nat.{_-_}
 use lib.ListN.{length}
-use Rattle.judge.specs.High.{Topped, top-from, top-on, top-end}
+use Rattle.judge.specs.HighSlots.{Topped}
+use Rattle.judge.proofs.HighLaws.{top-from, top-on, top-end}
 use borrow.Author.Needs.{needs}
 use Rattle.judge.proofs.high.highest.Statement.{statement}
 use Rattle.judge.proofs.high.highest.Tie as tie

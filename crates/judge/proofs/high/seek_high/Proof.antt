@@ -2,7 +2,7 @@ use Prim.Native.Nat.{_-_}
 use lib.ListN.{length}
 use Rattle.vocabulary.specs.Least.{Seeking, seek, on, hit, miss}
 use Rattle.judge.specs.Rules.{high}
-use Rattle.judge.specs.High.{high-yes, high-no}
+use Rattle.judge.proofs.HighLaws.{high-yes, high-no}
 use borrow.Author.Needs.{needs}
 use Rattle.judge.proofs.high.seek_high.Statement.{statement}
 use Rattle.judge.proofs.high.seek_high.Tie as tie
@@ -16,14 +16,14 @@ abbrev μ-loop : tie.MeasureT-loop
 loop-holds : tie.Need-loop-holds Inv-loop μ-loop
 loop-holds c = seek _ _
 
-shared-slice-read-wide : tie.Need-shared-slice-read-wide Inv-loop μ-loop
-shared-slice-read-wide c = search needs
+shared-slice-read-slot-value : tie.Need-shared-slice-read-slot-value Inv-loop μ-loop
+shared-slice-read-slot-value c = search needs
 
-wide-requires : tie.Need-wide-requires Inv-loop μ-loop
-wide-requires c κs = search needs
+slot-value-requires : tie.Need-slot-value-requires Inv-loop μ-loop
+slot-value-requires c κs = search needs
 
 returns : tie.Need-returns Inv-loop μ-loop
-returns c = hit _ _ _ (c .before .before .before .before .loop .inv) (high-yes _ _ _ _ (c .before .wide .ensures) (c .if1 .taken))
+returns c = hit _ _ _ (c .before .before .before .before .loop .inv) (high-yes _ _ _ _ (c .before .slot-value .ensures) (c .if1 .taken))
 
 add-e : tie.Need-add-e Inv-loop μ-loop
 add-e c = search needs
@@ -33,7 +33,7 @@ loop-less c = search needs
 
 loop-again : tie.Need-loop-again Inv-loop μ-loop
 loop-again c =
-    on _ _ _ (c .before .before .before .before .loop .inv) (c .before .before .before .loop-test .taken) (high-no _ _ _ _ (c .before .wide .ensures) (c .if1 .left))
+    on _ _ _ (c .before .before .before .before .loop .inv) (c .before .before .before .loop-test .taken) (high-no _ _ _ _ (c .before .slot-value .ensures) (c .if1 .left))
 
 returns-2 : tie.Need-returns-2 Inv-loop μ-loop
 returns-2 c = miss _ _ _ (c .before .loop .inv) (c .loop-test .left)
@@ -45,8 +45,8 @@ seek-high-spec =
     Inv-loop
     μ-loop
     loop-holds
-    shared-slice-read-wide
-    wide-requires
+    shared-slice-read-slot-value
+    slot-value-requires
     returns
     add-e
     loop-less

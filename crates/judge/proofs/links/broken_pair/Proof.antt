@@ -1,17 +1,18 @@
-use Prim.Native.Nat.{_-_}
 use native.Mathlib.Omega.{arith}
+use Prim.Native.Nat.{_-_}
 use Rattle.vocabulary.specs.Least.{Seeking, seek, on, hit, miss}
 use Rattle.judge.specs.Rules.{brokenPair}
-use Rattle.judge.specs.Linked.{PatternOf, pattern-pair, pairs-room, pair-yes, pair-no}
+use Rattle.judge.specs.TableNeeds.{PatternOf}
+use Rattle.judge.proofs.LinkTableLaws.{pattern-pair, pairs-room, pair-yes, pair-no}
 use borrow.Author.Needs.{needs}
 use Rattle.judge.proofs.links.broken_pair.Statement.{statement}
 use Rattle.judge.proofs.links.broken_pair.Tie as tie
 
 abbrev Inv-loop : tie.InvT-loop
-Inv-loop h first second counts firsts lasts g start n q₀ q = (w : PatternOf h first second counts firsts lasts g start n) → Seeking (brokenPair (w .tasks) (w .patterns) (w .plan) (w .pattern)) n q
+Inv-loop pairs rows g start n q₀ q = (w : PatternOf pairs rows g start n) → Seeking (brokenPair (w .tasks) (w .patterns) (w .plan) (w .pattern)) n q
 
 abbrev μ-loop : tie.MeasureT-loop
-μ-loop h first second counts firsts lasts g start n q₀ q = n - q
+μ-loop pairs rows g start n q₀ q = n - q
 
 loop-holds : tie.Need-loop-holds Inv-loop μ-loop
 loop-holds c = λ w. seek _ _
@@ -35,8 +36,9 @@ loop-less c = search needs
 
 loop-again : tie.Need-loop-again Inv-loop μ-loop
 loop-again c = λ w.
-    let z = pattern-pair w (c .before .before .before .loop-test .taken) in
-    on _ _ _ (c .before .before .before .before .loop .inv w) (c .before .before .before .loop-test .taken) (pair-no z (c .before .before .broken-link .ensures z) (c .if1 .left))
+    let l = c .before .before .before .loop-test .taken in
+    let z = pattern-pair w l in
+    on _ _ _ (c .before .before .before .before .loop .inv w) l (pair-no z (c .before .before .broken-link .ensures z) (c .if1 .left))
 
 returns-2 : tie.Need-returns-2 Inv-loop μ-loop
 returns-2 c = λ w. miss _ _ _ (c .before .loop .inv w) (c .loop-test .left)

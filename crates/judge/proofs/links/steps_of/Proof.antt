@@ -1,53 +1,46 @@
-use Rattle.judge.specs.Linked.{steps-is}
+use native.Mathlib.Omega.{arith}
+use Rattle.judge.proofs.LinkTableLaws.{from-period, to-period, whole-is, steps-is}
 use borrow.Author.Needs.{needs}
 use Rattle.judge.proofs.links.steps_of.Statement.{statement}
 use Rattle.judge.proofs.links.steps_of.Tie as tie
 
-mul-s : tie.Need-mul-s
-mul-s c = search needs
+cast-lane-of : tie.Need-cast-lane-of
+cast-lane-of c = search needs
 
-element-copy-out-s : tie.Need-element-copy-out-s
-element-copy-out-s c = search needs
+lane-of-requires : tie.Need-lane-of-requires
+lane-of-requires c κs = (c .before .pre .from-few, c .before .pre .some-from)
 
-mul-t : tie.Need-mul-t
-mul-t c = search needs
+cast-lane-of-2 : tie.Need-cast-lane-of-2
+cast-lane-of-2 c = search needs
 
-element-copy-out-t : tie.Need-element-copy-out-t
-element-copy-out-t c = search needs
+lane-of-requires-2 : tie.Need-lane-of-requires-2
+lane-of-requires-2 c κs = (c .before .before .before .pre .to-few, c .before .before .before .pre .some-to)
 
 common-multiple-requires : tie.Need-common-multiple-requires
 common-multiple-requires c κs = search needs
 
-lane-of-requires : tie.Need-lane-of-requires
-lane-of-requires c κs = search needs
+div-t9 : tie.Need-div-t9
+div-t9 c = omega (arith, from-period _ _ _ _ _ (c .before .before .before .before .lane-of .ensures) (c .before .before .lane-of2 .ensures), c .before .before .before .before .before .before .pre .some-from)
 
-lane-of-requires-2 : tie.Need-lane-of-requires-2
-lane-of-requires-2 c κs = search needs
+div-t10 : tie.Need-div-t10
+div-t10 c = omega (arith, to-period _ _ _ _ _ (c .before .before .before .before .before .lane-of .ensures) (c .before .before .before .lane-of2 .ensures), c .before .before .before .before .before .before .before .pre .some-to)
 
-div-t14 : tie.Need-div-t14
-div-t14 c = search needs
-
-div-t17 : tie.Need-div-t17
-div-t17 c = search needs
-
-div-t18 : tie.Need-div-t18
-div-t18 c = search needs
+div-t11 : tie.Need-div-t11
+div-t11 c = omega (arith, whole-is _ _ _ _ _ (c .before .before .before .before .before .lane-of .ensures) (c .before .before .before .lane-of2 .ensures) (c .before .before .common-multiple .ensures), c .before .before .before .before .before .before .before .pre .some-whole)
 
 returns : tie.Need-returns
-returns c = steps-is _ _ _ _ _ (c .before .before .common-multiple .ensures) (c .before .lane-of .ensures) (c .lane-of2 .ensures)
+returns c = steps-is _ _ _ _ _ (c .before .before .before .before .before .lane-of .ensures) (c .before .before .before .lane-of2 .ensures) (c .before .before .common-multiple .ensures)
 
 pub steps-of-spec : {M : Type 1} → statement M
 steps-of-spec =
     tie.close
     (tie.spec
-    mul-s
-    element-copy-out-s
-    mul-t
-    element-copy-out-t
-    common-multiple-requires
+    cast-lane-of
     lane-of-requires
+    cast-lane-of-2
     lane-of-requires-2
-    div-t14
-    div-t17
-    div-t18
+    common-multiple-requires
+    div-t9
+    div-t10
+    div-t11
     returns)

@@ -3,7 +3,7 @@ use Prim.Native.Nat.{_-_, _*_}
 use Rattle.vocabulary.specs.Least.{Seeking, seek, on, hit, miss}
 use Rattle.kinds.specs.Plans.{plan}
 use Rattle.judge.specs.Rules.{clashes}
-use Rattle.judge.specs.Row.{row-next}
+use Rattle.judge.proofs.RowLaws.{row-next}
 use borrow.Author.Needs.{needs}
 use native.Mathlib.Omega.{arith}
 use Rattle.judge.proofs.twice.first_twice.Statement.{statement}

@@ -1,7 +1,7 @@
 use mathlib.Core.Path.{sym, _∙_}
 use Prim.Native.Nat.{_-_}
 use Rattle.kinds.specs.Plans.{plan}
-use Rattle.judge.specs.Row.{Rowing, row-from, row-slot, row-room, row-hit, row-on, row-end}
+use Rattle.judge.proofs.RowLaws.{Rowing, row-from, row-slot, row-room, row-hit, row-on, row-end}
 use borrow.Author.Needs.{needs}
 use native.Mathlib.Omega.{arith}
 use Rattle.judge.proofs.twice.is_row_twice.Statement.{statement}
@@ -24,13 +24,13 @@ shared-slice-read-v : tie.Need-shared-slice-read-v Inv-loop μ-loop
 shared-slice-read-v c =
     row-room _ _ _ _ _ _ (c .before .before .before .before .pre .0) (c .before .before .before .before .pre .1) (c .before .loop-test .taken) (c .before .before .before .before .pre .2)
 
-is-marked-requires : tie.Need-is-marked-requires Inv-loop μ-loop
-is-marked-requires c κs = c .before .before .before .before .pre .0 .few _
+has-slot-requires : tie.Need-has-slot-requires Inv-loop μ-loop
+has-slot-requires c κs = c .before .before .before .before .pre .0 .few _
 
 returns : tie.Need-returns Inv-loop μ-loop
 returns c =
     let s = c .before .before .before .before .before .before in
-    sym (row-hit _ _ _ _ _ (c .before .before .before .before .loop .inv) (c .before .before .before .loop-test .taken) (row-slot _ _ _ _ _ _ (s .pre .1) (s .pre .2)) (s .pre .0 .few _) (sym (c .before .is-marked .ensures) ∙ c .if1 .taken))
+    sym (row-hit _ _ _ _ _ (c .before .before .before .before .loop .inv) (c .before .before .before .loop-test .taken) (row-slot _ _ _ _ _ _ (s .pre .1) (s .pre .2)) (s .pre .0 .few _) (sym (c .before .has-slot .ensures) ∙ c .if1 .taken))
 
 mark-requires : tie.Need-mark-requires Inv-loop μ-loop
 mark-requires c κs = c .before .before .before .before .before .before .pre .0 .few _
@@ -44,7 +44,7 @@ loop-less c = search needs
 loop-again : tie.Need-loop-again Inv-loop μ-loop
 loop-again c =
     let s = c .before .before .before .before .before .before .before in
-    row-on _ _ _ _ _ (c .before .before .before .before .before .loop .inv) (c .before .before .before .before .loop-test .taken) (row-slot _ _ _ _ _ _ (s .pre .1) (s .pre .2)) (s .pre .0 .few _) _ (sym (c .before .before .is-marked .ensures) ∙ c .before .if1 .left) (c .mark .ensures)
+    row-on _ _ _ _ _ (c .before .before .before .before .before .loop .inv) (c .before .before .before .before .loop-test .taken) (row-slot _ _ _ _ _ _ (s .pre .1) (s .pre .2)) (s .pre .0 .few _) _ (sym (c .before .before .has-slot .ensures) ∙ c .before .if1 .left) (c .mark .ensures)
 
 returns-2 : tie.Need-returns-2 Inv-loop μ-loop
 returns-2 c = sym (row-end _ _ _ _ (c .before .loop .inv) (c .loop-test .left))
@@ -58,7 +58,7 @@ is-row-twice-spec =
     loop-holds
     add-v
     shared-slice-read-v
-    is-marked-requires
+    has-slot-requires
     returns
     mark-requires
     add-q

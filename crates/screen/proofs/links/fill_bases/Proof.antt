@@ -1,47 +1,56 @@
-use Rattle.screen.specs.Spread.{Basing, base-from, base-on, base-room, base-end}
-use Prim.Native.Nat.{_-_}
+use Rattle.kinds.specs.Tasks.{tasksOf}
+use Rattle.screen.specs.LinkLists.{Basing, base-from, base-on, base-room, base-some, base-end}
 use native.Mathlib.Omega.{arith}
+use Prim.Native.Nat.{_-_}
+use borrow.Author.Needs.{needs}
 use Rattle.screen.proofs.links.fill_bases.Statement.{statement}
 use Rattle.screen.proofs.links.fill_bases.Tie as tie
 
 abbrev Inv-loop : tie.InvT-loop
-Inv-loop period n h base₀ b₀ i₀ base b i = Basing h period n base b i
+Inv-loop attributes base₀ n h b₀ i₀ base b i = Basing h (tasksOf n attributes) base b i
 
 abbrev μ-loop : tie.MeasureT-loop
-μ-loop period n h base₀ b₀ i₀ base b i = n - i
+μ-loop attributes base₀ n h b₀ i₀ base b i = n - i
 
+-- src/links.rt:68:5
 loop-holds : tie.Need-loop-holds Inv-loop μ-loop
-loop-holds c = base-from _ _ _ _ (c .pre)
+loop-holds c = base-from _ _ _ (c .pre)
 
+-- src/links.rt:69:9
 mul-base : tie.Need-mul-base Inv-loop μ-loop
-mul-base c = omega (arith, c .before .before .pre .few, c .loop-test .taken)
+mul-base c = search needs
 
+-- src/links.rt:69:9
 element-write-base : tie.Need-element-write-base Inv-loop μ-loop
 element-write-base c = omega (arith, c .before .before .pre .few, c .loop-test .taken)
 
-mul-b : tie.Need-mul-b Inv-loop μ-loop
-mul-b c = omega (arith, c .before .before .pre .few, c .loop-test .taken)
+-- src/links.rt:70:13
+task-at-requires : tie.Need-task-at-requires Inv-loop μ-loop
+task-at-requires c κs = search needs
 
-element-copy-out-b : tie.Need-element-copy-out-b Inv-loop μ-loop
-element-copy-out-b c = omega (arith, c .before .before .pre .few, c .loop-test .taken)
-
+-- src/links.rt:71:14
 div-b : tie.Need-div-b Inv-loop μ-loop
-div-b c = omega (arith, c .before .before .before .pre .some _ (c .before .loop-test .taken))
+div-b c = omega (arith, base-some _ _ _ _ _ _ (c .before .before .before .before .pre) (c .before .before .before .loop .inv) (c .before .before .loop-test .taken) (c .before .task-at .ensures))
 
+-- src/links.rt:71:9
 add-b : tie.Need-add-b Inv-loop μ-loop
-add-b c = omega (arith, base-room _ _ _ _ _ _ _ (c .before .before .before .pre) (c .before .before .loop .inv) (c .before .loop-test .taken))
+add-b c = omega (arith, base-room _ _ _ _ _ _ (c .before .before .before .before .pre) (c .before .before .before .loop .inv) (c .before .before .loop-test .taken) (c .before .task-at .ensures))
 
+-- src/links.rt:72:9
 add-i : tie.Need-add-i Inv-loop μ-loop
-add-i c = omega (arith, c .before .before .before .pre .few, c .before .loop-test .taken)
+add-i c = search needs
 
+-- src/links.rt:68:5
 loop-less : tie.Need-loop-less Inv-loop μ-loop
-loop-less c = omega (arith, c .before .loop-test .taken)
+loop-less c = search needs
 
+-- src/links.rt:68:5
 loop-again : tie.Need-loop-again Inv-loop μ-loop
-loop-again c = base-on _ _ _ _ _ _ _ (c .before .before .before .pre) (c .before .before .loop .inv) (c .before .loop-test .taken)
+loop-again c = base-on _ _ _ _ _ _ (c .before .before .before .before .pre) (c .before .before .before .loop .inv) (c .before .before .loop-test .taken) (c .before .task-at .ensures)
 
+-- src/links.rt:60:1
 returns : tie.Need-returns Inv-loop μ-loop
-returns c = base-end _ _ _ _ _ _ (c .before .loop .inv) (c .loop-test .left)
+returns c = base-end _ _ _ _ _ (c .before .loop .inv) (c .loop-test .left)
 
 pub fill-bases-spec : {M : Type 1} → statement M
 fill-bases-spec =
@@ -52,8 +61,7 @@ fill-bases-spec =
     loop-holds
     mul-base
     element-write-base
-    mul-b
-    element-copy-out-b
+    task-at-requires
     div-b
     add-b
     add-i

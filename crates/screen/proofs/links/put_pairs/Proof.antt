@@ -1,71 +1,57 @@
-use Rattle.screen.specs.Spread.{Appended, pairMade, append-join, append-turn, append-end, pairs-room}
+use Rattle.screen.specs.LinkLists.{Appended, pairMade, append-join, append-end, pairs-room, pairs-step, pairs-on}
 use Rattle.vocabulary.specs.Table.{join}
 use mathlib.Core.Path.{_∙_}
-use Prim.Native.Nat.{_-_, _≤_}
 use native.Mathlib.Omega.{arith}
+use Prim.Native.Nat.{_-_, _≤_}
 use borrow.Author.Needs.{needs}
 use Rattle.screen.proofs.links.put_pairs.Statement.{statement}
 use Rattle.screen.proofs.links.put_pairs.Tie as tie
 
 abbrev Inv-loop : tie.InvT-loop
-Inv-loop first second start m e from₀ to₀ c x y dx dy at₀ q₀ from to at q = (q ≤ m) × Appended (join (pairMade first second start (record { repeats = c; from = x; along = dx; to = y; across = dy })) q) e at from₀ to₀ from to
+Inv-loop pairs start m s e links₀ c at₀ q₀ links at q = (q ≤ m) × Appended (join (pairMade pairs start s) q) e at links₀ links
 
 abbrev μ-loop : tie.MeasureT-loop
-μ-loop first second start m e from₀ to₀ c x y dx dy at₀ q₀ from to at q = m - q
+μ-loop pairs start m s e links₀ c at₀ q₀ links at q = m - q
 
+-- src/links.rt:50:5
 loop-holds : tie.Need-loop-holds Inv-loop μ-loop
-loop-holds c = (omega arith, append-join _ _ _ _)
+loop-holds c = (omega arith, append-join _ _ _)
 
-add-wide16 : tie.Need-add-wide16 Inv-loop μ-loop
-add-wide16 c = omega (arith, c .before .before .before .pre .within, c .before .loop-test .taken)
+-- src/links.rt:51:39
+add-pair-at : tie.Need-add-pair-at Inv-loop μ-loop
+add-pair-at c = omega (arith, c .before .before .pre .within, c .loop-test .taken)
 
-mul-wide16 : tie.Need-mul-wide16 Inv-loop μ-loop
-mul-wide16 c = omega (arith, c .before .before .before .pre .within, c .before .loop-test .taken)
+-- src/links.rt:51:13
+pair-at-requires : tie.Need-pair-at-requires Inv-loop μ-loop
+pair-at-requires c κs = search needs
 
-element-copy-out-wide16 : tie.Need-element-copy-out-wide16 Inv-loop μ-loop
-element-copy-out-wide16 c = omega (arith, c .before .before .before .pre .within, c .before .loop-test .taken)
-
-wide16-requires : tie.Need-wide16-requires Inv-loop μ-loop
-wide16-requires c κs = search needs
-
-add-put-steps : tie.Need-add-put-steps Inv-loop μ-loop
-add-put-steps c = omega (arith, c .before .before .before .before .before .pre .low₁ _ (c .before .before .before .loop-test .taken), c .wide16 .ensures .0)
-
+-- src/links.rt:52:9
 put-steps-requires : tie.Need-put-steps-requires Inv-loop μ-loop
-put-steps-requires c κs = (record { long = c .before .before .before .before .loop .inv .1 .long₁ ∙ c .before .before .before .before .before .pre .starts .long }, pairs-room _ _ _ _ _ _ _ _ _ _ _ _ (c .before .before .before .before .before .pre) (c .before .before .before .before .loop .inv .1) (c .before .before .before .loop-test .taken), omega (arith, c .before .before .before .before .before .pre .low₁ _ (c .before .before .before .loop-test .taken), c .wide16 .ensures .0))
+put-steps-requires c κs = pairs-step _ _ _ _ _ _ _ _ _ (c .before .before .before .before .pre) (c .before .before .before .loop .inv .1) (c .before .before .loop-test .taken) (c .before .pair-at .ensures .0)
 
-add-wide16-2 : tie.Need-add-wide16-2 Inv-loop μ-loop
-add-wide16-2 c = omega (arith, c .before .before .before .before .before .before .before .pre .within, c .before .before .before .before .before .loop-test .taken)
-
-mul-wide16-2 : tie.Need-mul-wide16-2 Inv-loop μ-loop
-mul-wide16-2 c = omega (arith, c .before .before .before .before .before .before .before .pre .within, c .before .before .before .before .before .loop-test .taken)
-
-element-copy-out-wide16-2 : tie.Need-element-copy-out-wide16-2 Inv-loop μ-loop
-element-copy-out-wide16-2 c = omega (arith, c .before .before .before .before .before .before .before .pre .within, c .before .before .before .before .before .loop-test .taken)
-
-wide16-requires-2 : tie.Need-wide16-requires-2 Inv-loop μ-loop
-wide16-requires-2 c κs = search needs
-
-add-put-steps-2 : tie.Need-add-put-steps-2 Inv-loop μ-loop
-add-put-steps-2 c = omega (arith, c .before .before .before .before .before .before .before .before .before .pre .low₂ _ (c .before .before .before .before .before .before .before .loop-test .taken), c .wide162 .ensures .0)
-
-put-steps-requires-2 : tie.Need-put-steps-requires-2 Inv-loop μ-loop
-put-steps-requires-2 c κs = (record { long = c .before .before .before .before .before .before .before .before .loop .inv .1 .long₂ ∙ c .before .before .before .before .before .before .before .before .before .pre .ends .long }, pairs-room _ _ _ _ _ _ _ _ _ _ _ _ (c .before .before .before .before .before .before .before .before .before .pre) (c .before .before .before .before .before .before .before .before .loop .inv .1) (c .before .before .before .before .before .before .before .loop-test .taken), omega (arith, c .before .before .before .before .before .before .before .before .before .pre .low₂ _ (c .before .before .before .before .before .before .before .loop-test .taken), c .wide162 .ensures .0))
-
+-- src/links.rt:53:9
 add-at : tie.Need-add-at Inv-loop μ-loop
-add-at c = omega (arith, pairs-room _ _ _ _ _ _ _ _ _ _ _ _ (c .before .before .before .before .before .before .before .before .before .before .pre) (c .before .before .before .before .before .before .before .before .before .loop .inv .1) (c .before .before .before .before .before .before .before .before .loop-test .taken))
+add-at c = omega (arith, pairs-room _ _ _ _ _ _ _ _ _ (c .before .before .before .before .before .before .pre) (c .before .before .before .before .before .loop .inv .1) (c .before .before .before .before .loop-test .taken))
 
+-- src/links.rt:54:9
 add-q : tie.Need-add-q Inv-loop μ-loop
-add-q c = omega arith
+add-q c = search needs
 
+-- src/links.rt:50:5
 loop-less : tie.Need-loop-less Inv-loop μ-loop
-loop-less c = omega (arith, c .before .before .before .before .before .before .before .before .loop-test .taken)
+loop-less c = search needs
 
+-- src/links.rt:50:5
 loop-again : tie.Need-loop-again Inv-loop μ-loop
-loop-again c = (omega (arith, c .before .before .before .before .before .before .before .before .loop-test .taken), append-turn _ _ _ _ _ _ _ _ _ _ _ _ _ (c .before .before .before .before .before .wide16 .ensures .0) (c .before .wide162 .ensures .0) (c .before .before .before .before .before .before .before .before .before .loop .inv .1) (c .before .before .before .before .put-steps .ensures) (c .put-steps2 .ensures))
+loop-again c = (omega (arith, c .before .before .before .before .loop-test .taken), pairs-on _ _ _ _ _ _ _ _ _ (c .before .before .before .before .before .before .pre) (c .before .before .before .before .before .loop .inv .1) (c .before .before .before .before .loop-test .taken) (c .before .before .before .pair-at .ensures .0) _ (c .before .put-steps .ensures))
 
+-- src/links.rt:36:1
+same-length : tie.Need-same-length Inv-loop μ-loop
+same-length c = c .before .loop .inv .1 .long
+
+-- src/links.rt:36:1
 returns : tie.Need-returns Inv-loop μ-loop
-returns c = append-end _ _ _ _ _ _ _ _ _ (c .before .loop .inv .0) (c .loop-test .left) (c .before .loop .inv .1)
+returns c = append-end _ _ _ _ _ _ _ (c .before .loop .inv .0) (c .loop-test .left) (c .before .loop .inv .1)
 
 pub put-pairs-spec : {M : Type 1} → statement M
 put-pairs-spec =
@@ -74,20 +60,12 @@ put-pairs-spec =
     Inv-loop
     μ-loop
     loop-holds
-    add-wide16
-    mul-wide16
-    element-copy-out-wide16
-    wide16-requires
-    add-put-steps
+    add-pair-at
+    pair-at-requires
     put-steps-requires
-    add-wide16-2
-    mul-wide16-2
-    element-copy-out-wide16-2
-    wide16-requires-2
-    add-put-steps-2
-    put-steps-requires-2
     add-at
     add-q
     loop-less
     loop-again
+    same-length
     returns)

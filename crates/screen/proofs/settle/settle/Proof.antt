@@ -1,45 +1,54 @@
-use Rattle.graph.specs.Pass.{Settling, settle-from, still-lined, settle-on, settle-still, settle-end}
+use Rattle.graph.specs.JobRows.{Rounds, rounds-from, still-ready, rounds-on, rounds-still, rounds-at}
+use Rattle.vocabulary.specs.Test.{clash}
 use borrow.Author.Tests.{not-true}
-use mathlib.Core.Path.{_∙_}
 use native.Mathlib.Omega.{arith}
+use mathlib.Core.Path.{refl, _∙_}
 use Prim.Native.Nat.{_-_, _≤_}
-use lib.ListN.{length}
 use borrow.Author.Needs.{needs}
 use Rattle.screen.proofs.settle.settle.Statement.{statement}
 use Rattle.screen.proofs.settle.settle.Tie as tie
 
 abbrev Inv-loop : tie.InvT-loop
-Inv-loop from to w v₀ k₀ v k = (k ≤ length v₀) × Settling from to w v₀ v k
+Inv-loop links jobs₀ most k₀ jobs k = (k ≤ most) × Rounds links jobs₀ jobs k
 
 abbrev μ-loop : tie.MeasureT-loop
-μ-loop from to w v₀ k₀ v k = length v₀ - k
+μ-loop links jobs₀ most k₀ jobs k = most - k
 
+-- src/settle.rt:85:5
 loop-holds : tie.Need-loop-holds Inv-loop μ-loop
-loop-holds c = (omega arith, settle-from _ _ _ _ (c .before .before .before .before .pre))
+loop-holds c = (omega arith, rounds-from _ _ (c .pre))
 
-pass-requires : tie.Need-pass-requires Inv-loop μ-loop
-pass-requires c κs = still-lined _ _ _ _ _ _ (c .before .before .before .before .before .before .before .pre) (c .before .before .loop .inv .1)
+-- src/settle.rt:86:13
+sweep-links-requires : tie.Need-sweep-links-requires Inv-loop μ-loop
+sweep-links-requires c κs = still-ready _ _ (c .before .before .before .pre) _ _ (c .before .before .loop .inv .1)
 
+-- src/settle.rt:87:13
 same-length : tie.Need-same-length Inv-loop μ-loop
-same-length c = c .before .before .before .pass .ensures .long ∙ c .before .before .before .before .before .before .loop .inv .1 .long
+same-length c = c .before .before .sweep-links .ensures .long ∙ c .before .before .before .before .before .loop .inv .1 .long
 
+-- src/settle.rt:87:13
 returns : tie.Need-returns Inv-loop μ-loop
-returns c = settle-still _ _ _ _ _ _ _ _ (c .before .before .before .before .before .before .before .before .before .before .before .pre) (c .before .before .before .before .before .before .loop .inv .1) (c .before .before .before .pass .ensures) (not-true _ (c .if1 .taken))
+returns c = (λ e. rounds-still _ _ (c .before .before .before .before .before .before .pre) _ _ (c .before .before .before .before .before .loop .inv .1) _ _ (c .before .before .sweep-links .ensures) (not-true _ (c .if1 .taken)), λ e. clash refl e)
 
+-- src/settle.rt:89:9
 add-k : tie.Need-add-k Inv-loop μ-loop
 add-k c = search needs
 
+-- src/settle.rt:85:5
 loop-less : tie.Need-loop-less Inv-loop μ-loop
-loop-less c = omega (arith, c .before .before .before .before .before .before .loop .inv .1 .long)
+loop-less c = search needs
 
+-- src/settle.rt:85:5
 loop-again : tie.Need-loop-again Inv-loop μ-loop
-loop-again c = (omega (arith, c .before .before .before .before .before .before .loop .inv .1 .long), settle-on _ _ _ _ _ _ _ _ (c .before .before .before .before .before .before .before .before .before .before .before .pre) (c .before .before .before .before .before .before .loop .inv .1) (c .before .before .before .pass .ensures))
+loop-again c = (omega arith, rounds-on _ _ (c .before .before .before .before .before .before .pre) _ _ (c .before .before .before .before .before .loop .inv .1) _ _ (c .before .before .sweep-links .ensures))
 
+-- src/settle.rt:79:1
 same-length-2 : tie.Need-same-length-2 Inv-loop μ-loop
 same-length-2 c = c .before .loop .inv .1 .long
 
+-- src/settle.rt:79:1
 returns-2 : tie.Need-returns-2 Inv-loop μ-loop
-returns-2 c = settle-end _ _ _ _ _ _ (c .before .loop .inv .1) (c .loop-test .left) (c .before .loop .inv .0)
+returns-2 c = (λ e. clash e refl, λ e. rounds-at _ _ _ _ _ (c .before .loop .inv .1) (c .before .loop .inv .0) (c .loop-test .left))
 
 pub settle-spec : {M : Type 1} → statement M
 settle-spec =
@@ -48,7 +57,7 @@ settle-spec =
     Inv-loop
     μ-loop
     loop-holds
-    pass-requires
+    sweep-links-requires
     same-length
     returns
     add-k

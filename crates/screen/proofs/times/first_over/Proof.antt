@@ -1,6 +1,8 @@
-use Rattle.screen.specs.Timed.{over}
+use Rattle.screen.specs.JobTimes.{over, over-is}
 use Rattle.vocabulary.specs.Least.{Seeking, seek, on, hit, miss}
+use borrow.Author.Tests.{lt-ltb, le-ltb}
 use mathlib.Core.Path.{sym, _∙_}
+use native.Mathlib.Omega.{arith}
 use Prim.Native.Nat.{_-_}
 use lib.ListN.{length}
 use borrow.Author.Needs.{needs}
@@ -8,29 +10,60 @@ use Rattle.screen.proofs.times.first_over.Statement.{statement}
 use Rattle.screen.proofs.times.first_over.Tie as tie
 
 abbrev Inv-loop : tie.InvT-loop
-Inv-loop run rel ahead x₀ x = Seeking (over run rel ahead) (length run) x
+Inv-loop jobs x₀ x = Seeking (over jobs) (length jobs) x
 
 abbrev μ-loop : tie.MeasureT-loop
-μ-loop run rel ahead x₀ x = length run - x
+μ-loop jobs x₀ x = length jobs - x
 
+-- src/times.rt:107:5
 loop-holds : tie.Need-loop-holds Inv-loop μ-loop
 loop-holds c = seek _ _
 
-is-over-requires : tie.Need-is-over-requires Inv-loop μ-loop
-is-over-requires c κs = (c .before .before .before .before .before .pre, c .loop-test .taken)
+-- src/times.rt:108:17
+mul-r : tie.Need-mul-r Inv-loop μ-loop
+mul-r c = search needs
 
+-- src/times.rt:108:17
+shared-slice-copy-out-r : tie.Need-shared-slice-copy-out-r Inv-loop μ-loop
+shared-slice-copy-out-r c = search needs
+
+-- src/times.rt:109:20
+array-read-if1 : tie.Need-array-read-if1 Inv-loop μ-loop
+array-read-if1 c = search needs
+
+-- src/times.rt:109:27
+array-read-if1-2 : tie.Need-array-read-if1-2 Inv-loop μ-loop
+array-read-if1-2 c = search needs
+
+-- src/times.rt:109:20
+add-if1 : tie.Need-add-if1 Inv-loop μ-loop
+add-if1 c = omega (arith, c .before .before .before .pre .early _ (c .before .loop-test .taken), c .before .before .before .pre .light _ (c .before .loop-test .taken))
+
+-- src/times.rt:109:34
+array-read-if1-3 : tie.Need-array-read-if1-3 Inv-loop μ-loop
+array-read-if1-3 c = search needs
+
+-- src/times.rt:109:20
+add-if1-2 : tie.Need-add-if1-2 Inv-loop μ-loop
+add-if1-2 c = omega (arith, c .before .before .before .pre .early _ (c .before .loop-test .taken), c .before .before .before .pre .light _ (c .before .loop-test .taken), c .before .before .before .pre .late _ (c .before .loop-test .taken))
+
+-- src/times.rt:110:13
 returns : tie.Need-returns Inv-loop μ-loop
-returns c = hit _ _ _ (c .before .before .before .loop .inv) (sym (c .before .is-over .ensures) ∙ c .if1 .taken)
+returns c = hit _ _ _ (c .before .before .before .loop .inv) (sym (over-is _ _) ∙ lt-ltb _ _ (c .if1 .taken))
 
+-- src/times.rt:112:9
 add-x : tie.Need-add-x Inv-loop μ-loop
 add-x c = search needs
 
+-- src/times.rt:107:5
 loop-less : tie.Need-loop-less Inv-loop μ-loop
 loop-less c = search needs
 
+-- src/times.rt:107:5
 loop-again : tie.Need-loop-again Inv-loop μ-loop
-loop-again c = on _ _ _ (c .before .before .before .loop .inv) (c .before .before .loop-test .taken) (sym (c .before .is-over .ensures) ∙ c .if1 .left)
+loop-again c = on _ _ _ (c .before .before .before .loop .inv) (c .before .before .loop-test .taken) (sym (over-is _ _) ∙ le-ltb _ _ (c .if1 .left))
 
+-- src/times.rt:102:1
 returns-2 : tie.Need-returns-2 Inv-loop μ-loop
 returns-2 c = miss _ _ _ (c .before .loop .inv) (c .loop-test .left)
 
@@ -41,7 +74,13 @@ first-over-spec =
     Inv-loop
     μ-loop
     loop-holds
-    is-over-requires
+    mul-r
+    shared-slice-copy-out-r
+    array-read-if1
+    array-read-if1-2
+    add-if1
+    array-read-if1-3
+    add-if1-2
     returns
     add-x
     loop-less

@@ -1,4 +1,4 @@
-use Rattle.screen.specs.Signs.{left-fits, left-is}
+use Rattle.screen.proofs.Signs.{left-fits, left-is}
 use borrow.Author.Needs.{needs}
 use Rattle.screen.proofs.times.left_of.Statement.{statement}
 use Rattle.screen.proofs.times.left_of.Tie as tie

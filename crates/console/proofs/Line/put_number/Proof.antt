@@ -1,0 +1,24 @@
+use Rattle.console.specs.Lines.{by-words}
+use borrow.Author.Needs.{needs}
+use Rattle.console.proofs.Line.put_number.Statement.{statement}
+use Rattle.console.proofs.Line.put_number.Tie as tie
+
+decimal-requires : tie.Need-decimal-requires
+decimal-requires c κs = search needs
+
+array-share-prefix-digits : tie.Need-array-share-prefix-digits
+array-share-prefix-digits c = search needs
+
+slice-aggregate-put : tie.Need-slice-aggregate-put
+slice-aggregate-put c = search needs
+
+put-requires : tie.Need-put-requires
+put-requires c κs = search needs
+
+returns : tie.Need-returns
+returns c = by-words _ _ (c .put .ensures)
+
+pub put-number-spec : {M : Type 1} → statement M
+put-number-spec =
+    tie.close
+    (tie.spec decimal-requires array-share-prefix-digits slice-aggregate-put put-requires returns)

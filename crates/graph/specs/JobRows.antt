@@ -1,0 +1,295 @@
+-- Rounds for both times at once, over a row of jobs. A job's record is its running time, its release, and how far before a fixed tick it is due.
+use mathlib.Core.Path.{_≡_, refl, sym, ap, _∙_}
+use mathlib.Core.Bool.{Bool, true, false}
+use mathlib.Core.List.{List, [], _∷_}
+use Prim.Native.Nat.{ℕ, _+_, _≤_, _<_, min}
+use native.Mathlib.Omega.{arith}
+use lib.ListN.{length, getD, set, replicate, length-set, length-replicate}
+use Rattle.vocabulary.specs.Test.{clash}
+use Rattle.vocabulary.specs.StopsAndZeros.{zeros}
+use Rattle.graph.specs.Column.{column, column-long, column-at, column-set, column-kept}
+use Rattle.graph.specs.Pass.{limit, at, Lined, Raised, raised, not-raised, PassingLinks, pass-from, pass-on, pass-end, Settling, settle-from}
+use Rattle.graph.specs.Pass.{still-lined, settle-on, settle-still, settle-end}
+use Rattle.graph.specs.Cycle.{Between, between-back}
+
+abbrev pub runs : List (List ℕ) → List ℕ
+runs rows = column 0 rows
+
+abbrev pub releases : List (List ℕ) → List ℕ
+releases rows = column 1 rows
+
+abbrev pub aheads : List (List ℕ) → List ℕ
+aheads rows = column 2 rows
+
+-- what a release gains on the way to a successor: nothing
+abbrev pub gains : List (List ℕ) → List ℕ
+gains rows = replicate (length rows) 0
+
+abbrev pub starts : List (List ℕ) → List ℕ
+starts links = column 0 links
+
+abbrev pub ends : List (List ℕ) → List ℕ
+ends links = column 1 links
+
+-- links between the jobs of a row, whose numbers are low
+pub record Ready (links rows : List (List ℕ)) : Type 0 where
+  pub between : Between (starts links) (ends links) (length rows)
+  pub light : (x : ℕ) → x < length rows → at (runs rows) x ≤ limit
+  pub early : (x : ℕ) → x < length rows → at (releases rows) x ≤ limit
+  pub late : (x : ℕ) → x < length rows → at (aheads rows) x ≤ limit
+
+module _ (links rows : List (List ℕ)) (p : Ready links rows) where
+  pub release-lined : Lined (starts links) (ends links) (gains rows) (releases rows)
+  release-lined =
+      let e : length (releases rows) ≡ length rows = column-long 1 rows in
+      record {
+        long = p .between .long;
+        weights = length-replicate (length rows) 0 ∙ sym e;
+        starts = λ k l. omega (arith, p .between .starts k l);
+        ends = λ k l. omega (arith, p .between .ends k l);
+        light = λ x l. omega (arith, zeros (length rows) x);
+        low = λ x l. p .early x (omega arith);
+      }
+
+  pub ahead-lined : Lined (ends links) (starts links) (runs rows) (aheads rows)
+  ahead-lined =
+      let e : length (aheads rows) ≡ length rows = column-long 2 rows in
+      let b = between-back (starts links) (ends links) (length rows) (p .between) in
+      record {
+        long = b .long;
+        weights = column-long 0 rows ∙ sym e;
+        starts = λ k l. omega (arith, b .starts k l);
+        ends = λ k l. omega (arith, b .ends k l);
+        light = λ x l. p .light x (omega arith);
+        low = λ x l. p .late x (omega arith);
+      }
+
+-- ---- one link, from job a to job b
+pub record Hop (a b : ℕ) (rows : List (List ℕ)) : Type 0 where
+  pub from : a < length rows
+  pub to : b < length rows
+  pub light : at (runs rows) b ≤ limit
+  pub early : at (releases rows) a ≤ limit
+  pub late : at (aheads rows) b ≤ limit
+
+pub record Delayed (a b : ℕ) (rows rows′ : List (List ℕ)) (r : Bool) : Type 0 where
+  pub long : length rows′ ≡ length rows
+  pub same₁ : runs rows′ ≡ runs rows
+  pub same₂ : aheads rows′ ≡ aheads rows
+  pub raised : Raised (gains rows) a b (releases rows) (releases rows′) r
+
+pub record Hastened (a b : ℕ) (rows rows′ : List (List ℕ)) (r : Bool) : Type 0 where
+  pub long : length rows′ ≡ length rows
+  pub same₁ : runs rows′ ≡ runs rows
+  pub same₂ : releases rows′ ≡ releases rows
+  pub raised : Raised (runs rows) b a (aheads rows) (aheads rows′) r
+
+module _ (rows : List (List ℕ)) (a b : ℕ) (h : Hop a b rows) where
+  gain : at (releases rows) a ≡ min (at (releases rows) a + at (gains rows) a) limit
+  gain = omega (arith, zeros (length rows) a, h .early)
+
+  pub delays : getD (getD rows b []) 1 0 < getD (getD rows a []) 1 0
+      → Delayed a b rows (set rows b (getD (getD rows b []) 0 0 ∷ getD (getD rows a []) 1 0 ∷ getD (getD rows b []) 2 0 ∷ [])) true
+  delays l =
+      let r : List ℕ = getD (getD rows b []) 0 0 ∷ getD (getD rows a []) 1 0 ∷ getD (getD rows b []) 2 0 ∷ [] in
+      record {
+        long = length-set rows b r;
+        same₁ = column-kept 0 rows b r refl;
+        same₂ = column-kept 2 rows b r refl;
+        raised =
+            rw (column-set 1 rows b r)
+            (raised (gains rows) a b (releases rows) (getD (getD rows a []) 1 0) (sym (column-at 1 rows a) ∙ gain) (omega (arith, column-at 1 rows b))
+            (omega (arith, column-long 1 rows, h .to)));
+      }
+
+  pub not-delays : getD (getD rows a []) 1 0 ≤ getD (getD rows b []) 1 0 → Delayed a b rows rows false
+  not-delays l =
+      record {
+        long = refl;
+        same₁ = refl;
+        same₂ = refl;
+        raised = not-raised (gains rows) a b (releases rows) (getD (getD rows a []) 1 0) (sym (column-at 1 rows a) ∙ gain) (omega (arith, column-at 1 rows b));
+      }
+
+  module _ {s : ℕ} (e : s ≡ min (getD (getD rows b []) 2 0 + getD (getD rows b []) 0 0) limit) where
+    brought : s ≡ min (at (aheads rows) b + at (runs rows) b) limit
+    brought = omega (arith, e, column-at 2 rows b, column-at 0 rows b)
+
+    pub hastens : getD (getD rows a []) 2 0 < s → Hastened a b rows (set rows a (getD (getD rows a []) 0 0 ∷ getD (getD rows a []) 1 0 ∷ s ∷ [])) true
+    hastens l =
+        let r : List ℕ = getD (getD rows a []) 0 0 ∷ getD (getD rows a []) 1 0 ∷ s ∷ [] in
+        record {
+          long = length-set rows a r;
+          same₁ = column-kept 0 rows a r refl;
+          same₂ = column-kept 1 rows a r refl;
+          raised =
+              rw (column-set 2 rows a r)
+              (raised (runs rows) b a (aheads rows) s brought (omega (arith, column-at 2 rows a)) (omega (arith, column-long 2 rows, h .from)));
+        }
+
+    pub not-hastens : s ≤ getD (getD rows a []) 2 0 → Hastened a b rows rows false
+    not-hastens l =
+        record { long = refl; same₁ = refl; same₂ = refl; raised = not-raised (runs rows) b a (aheads rows) s brought (omega (arith, column-at 2 rows a)) }
+
+-- both: r is whether one of the two changed something
+pub record Hopped (a b : ℕ) (rows rows′ : List (List ℕ)) (r : Bool) : Type 0 where
+  pub long : length rows′ ≡ length rows
+  pub same : runs rows′ ≡ runs rows
+  pub release : Raised (gains rows) a b (releases rows) (releases rows′) r
+  pub ahead : Raised (runs rows) b a (aheads rows) (aheads rows′) r
+
+reflag : (w : List ℕ) (a b : ℕ) (v v′ : List ℕ) (r r′ : Bool) → (r′ ≡ false → r ≡ false) → Raised w a b v v′ r → Raised w a b v v′ r′
+reflag w a b v v′ r r′ h p =
+    record { long = p .long; grow = p .grow; got = p .got; low = p .low; under = p .under; still = λ e. p .still (h e) }
+
+-- what the second of the two asks
+pub hop-on : (a b : ℕ) (rows rows′ : List (List ℕ)) (r : Bool) → Hop a b rows → Delayed a b rows rows′ r → Hop a b rows′
+hop-on a b rows rows′ r h p =
+    record {
+      from = omega (arith, h .from, p .long);
+      to = omega (arith, h .to, p .long);
+      light = rw (p .same₁) (h .light);
+      early = p .raised .low a (h .early);
+      late = rw (p .same₂) (h .late);
+    }
+
+pub hopped : (a b : ℕ) (rows rows′ rows″ : List (List ℕ)) (r₁ r₂ r : Bool) → Delayed a b rows rows′ r₁ → Hastened a b rows′ rows″ r₂
+    → (r ≡ false → (r₁ ≡ false) × (r₂ ≡ false)) → Hopped a b rows rows″ r
+hopped a b rows rows′ rows″ r₁ r₂ r p q h =
+    record {
+      long = q .long ∙ p .long;
+      same = q .same₁ ∙ p .same₁;
+      release = rw (q .same₂) (reflag (gains rows) a b (releases rows) (releases rows′) r₁ r (λ e. h e .0) (p .raised));
+      ahead = reflag (runs rows) b a (aheads rows) (aheads rows″) r₂ r (λ e. h e .1) (rw (p .same₁, p .same₂) at (q .raised));
+    }
+
+-- ---- all links once, up to link k
+pub record Sweeps (links rows rows′ : List (List ℕ)) (k : ℕ) (r : Bool) : Type 0 where
+  pub long : length rows′ ≡ length rows
+  pub same : runs rows′ ≡ runs rows
+  pub release : PassingLinks (starts links) (ends links) (gains rows) (releases rows) (releases rows′) k r
+  pub ahead : PassingLinks (ends links) (starts links) (runs rows) (aheads rows) (aheads rows′) k r
+
+module _ (links rows : List (List ℕ)) (p : Ready links rows) where
+  pub sweep-from : Sweeps links rows rows 0 false
+  sweep-from =
+      record {
+        long = refl;
+        same = refl;
+        release = pass-from (starts links) (ends links) (gains rows) (releases rows) (release-lined links rows p);
+        ahead = pass-from (ends links) (starts links) (runs rows) (aheads rows) (ahead-lined links rows p);
+      }
+
+  module _ (rows′ : List (List ℕ)) (k : ℕ) (r : Bool) (q : Sweeps links rows rows′ k r) (l : k < length links) {a b : ℕ}
+      (ea : a ≡ getD (getD links k []) 0 0) (eb : b ≡ getD (getD links k []) 1 0) where
+    start-is : at (starts links) k ≡ a
+    start-is = column-at 0 links k ∙ sym ea
+
+    end-is : at (ends links) k ≡ b
+    end-is = column-at 1 links k ∙ sym eb
+
+    l₁ : k < length (starts links)
+    l₁ = omega (arith, column-long 0 links)
+
+    l₂ : k < length (ends links)
+    l₂ = omega (arith, column-long 1 links)
+
+    pub sweep-hop : Hop a b rows′
+    sweep-hop =
+        let la : a < length rows = omega (arith, p .between .starts k l₁, start-is) in
+        let lb : b < length rows = omega (arith, p .between .ends k l₁, end-is) in
+        record {
+          from = omega (arith, q .long);
+          to = omega (arith, q .long);
+          light = rw (q .same) (p .light b lb);
+          early = q .release .low a (omega (arith, column-long 1 rows));
+          late = q .ahead .low b (omega (arith, column-long 2 rows));
+        }
+
+    pub sweep-on : (rows″ : List (List ℕ)) (c r′ : Bool) → Hopped a b rows′ rows″ c → (r′ ≡ false → (r ≡ false) × (c ≡ false))
+        → Sweeps links rows rows″ (k + 1) r′
+    sweep-on rows″ c r′ h f =
+        let m : length rows′ ≡ length rows = q .long in
+        let h₁ : Raised (gains rows) (at (starts links) k) (at (ends links) k) (releases rows′) (releases rows″) c =
+        rw (start-is, end-is) (rw m at (h .release)) in
+        let h₂ : Raised (runs rows) (at (ends links) k) (at (starts links) k) (aheads rows′) (aheads rows″) c =
+        rw (start-is, end-is) (rw (q .same) at (h .ahead)) in
+        record {
+          long = h .long ∙ q .long;
+          same = h .same ∙ q .same;
+          release =
+              pass-on (starts links) (ends links) (gains rows) (releases rows) (releases rows′) (releases rows″) k r c r′ (release-lined links rows p)
+              (q .release) l₁ h₁ f;
+          ahead =
+              pass-on (ends links) (starts links) (runs rows) (aheads rows) (aheads rows′) (aheads rows″) k r c r′ (ahead-lined links rows p)
+              (q .ahead) l₂ h₂ f;
+        }
+
+  pub sweep-end : (rows′ : List (List ℕ)) (k : ℕ) (r : Bool) → Sweeps links rows rows′ k r → length links ≤ k → Sweeps links rows rows′ (length links) r
+  sweep-end rows′ k r q l =
+      let e : k ≡ length links = omega (arith, q .release .within, column-long 0 links) in
+      rw e at q
+
+-- ---- rounds
+pub record Rounds (links rows rows′ : List (List ℕ)) (s : ℕ) : Type 0 where
+  pub long : length rows′ ≡ length rows
+  pub same : runs rows′ ≡ runs rows
+  pub release : Settling (starts links) (ends links) (gains rows) (releases rows) (releases rows′) s
+  pub ahead : Settling (ends links) (starts links) (runs rows) (aheads rows) (aheads rows′) s
+
+module _ (links rows : List (List ℕ)) (p : Ready links rows) where
+  pub rounds-from : Rounds links rows rows 0
+  rounds-from =
+      record {
+        long = refl;
+        same = refl;
+        release = settle-from (starts links) (ends links) (gains rows) (releases rows) (release-lined links rows p);
+        ahead = settle-from (ends links) (starts links) (runs rows) (aheads rows) (ahead-lined links rows p);
+      }
+
+  module _ (rows′ : List (List ℕ)) (s : ℕ) (q : Rounds links rows rows′ s) where
+    pub still-ready : Ready links rows′
+    still-ready =
+        let e = q .long in
+        record {
+          between = rw e (p .between);
+          light = λ x l. rw (q .same) (p .light x (omega arith));
+          early = λ x l. q .release .low x (omega (arith, column-long 1 rows));
+          late = λ x l. q .ahead .low x (omega (arith, column-long 2 rows));
+        }
+
+    module _ (rows″ : List (List ℕ)) (r : Bool) (w : Sweeps links rows′ rows″ (length links) r) where
+      w₁ : PassingLinks (starts links) (ends links) (gains rows) (releases rows′) (releases rows″) (length (starts links)) r
+      w₁ = let m = q .long in rw (column-long 0 links) (rw m at (w .release))
+
+      w₂ : PassingLinks (ends links) (starts links) (runs rows) (aheads rows′) (aheads rows″) (length (ends links)) r
+      w₂ = rw (column-long 1 links) (rw (q .same) at (w .ahead))
+
+      pub rounds-on : Rounds links rows rows″ (s + 1)
+      rounds-on =
+          record {
+            long = w .long ∙ q .long;
+            same = w .same ∙ q .same;
+            release =
+                settle-on (starts links) (ends links) (gains rows) (releases rows) (releases rows′) (releases rows″) s r (release-lined links rows p)
+                (q .release) w₁;
+            ahead = settle-on (ends links) (starts links) (runs rows) (aheads rows) (aheads rows′) (aheads rows″) s r (ahead-lined links rows p) (q .ahead) w₂;
+          }
+
+      pub rounds-still : r ≡ false → Rounds links rows rows″ (length rows)
+      rounds-still f =
+          record {
+            long = w .long ∙ q .long;
+            same = w .same ∙ q .same;
+            release =
+                rw (column-long 1 rows) at
+                (settle-still (starts links) (ends links) (gains rows) (releases rows) (releases rows′) (releases rows″) s r
+                (release-lined links rows p) (q .release) w₁ f);
+            ahead =
+                rw (column-long 2 rows) at
+                (settle-still (ends links) (starts links) (runs rows) (aheads rows) (aheads rows′) (aheads rows″) s r (ahead-lined links rows p)
+                (q .ahead) w₂ f);
+          }
+
+pub rounds-at : (links rows rows′ : List (List ℕ)) (s m : ℕ) → Rounds links rows rows′ s → s ≤ m → m ≤ s → Rounds links rows rows′ m
+rounds-at links rows rows′ s m p l h = let e : s ≡ m = omega arith in rw e at p

@@ -1,0 +1,92 @@
+-- How far the answers go that the reader gets from the layer below, and what the cycle's answer says of rule 5.
+use mathlib.Core.Bool.{Bool, true, false, _&&_}
+use mathlib.Core.Path.{_≡_, refl, sym, _∙_, ap}
+use mathlib.Core.List.{List}
+use Prim.Native.Nat.{ℕ, _*_, _/_, _≤_}
+use native.Mathlib.Nat.{div-le-self, div-le-of-le-mul, mul-le-mul, mul-comm}
+use native.Mathlib.Omega.{arith}
+use borrow.Author.Tests.{leb-true}
+use lib.Dec.{leb, eqb}
+use Rattle.vocabulary.specs.Test.{pick, both, fails}
+use Rattle.vocabulary.specs.Multiple.{lcm, lcm-le}
+use Rattle.kinds.specs.declared.Key.{Key}
+use Rattle.kinds.specs.declared.Cycle.{Cycle}
+use Rattle.kinds.specs.declared.Spans.{Spans}
+use Rattle.kinds.specs.Limits.{holds, periods}
+use Rattle.kinds.specs.Tasks.{Tasks}
+use Rattle.kinds.specs.Cycle.{cycle, cycleFits, cycleIs, periodsFit, noCycle, cycleOf}
+use Rattle.kinds.specs.Links.{spansOf, linksIn}
+use Rattle.kinds.specs.RangeLaws.{holds-at, cycle-pos}
+use Rattle.kinds.proofs.PatternWalk.{HeadingFacts, heading-facts}
+use Rattle.kinds.specs.SoundByTests.{few-tasks}
+use Rattle.heads.specs.declared.Heading as answer
+use Rattle.heads.specs.declared.Heading.the-variants as heading
+use Rattle.heads.specs.declared.Opening.{Opening}
+use Rattle.heads.specs.declared.Opening.the-variants as opening
+use Rattle.heads.specs.declared.Middle.{Middle}
+use Rattle.heads.specs.declared.Middle.the-variants as middle
+use Rattle.heads.specs.Tables.{headingAt}
+use Rattle.heads.specs.Heads.{openingOf, middleFrom}
+use Rattle.heads.proofs.ReadInRange.{heading-fits, opening-fits, middle-fits}
+
+-- a pair's numbers go no farther than a period
+pub spans-low : (e s t : ℕ) {m : Spans} → m ≡ spansOf e s t → (m .first ≤ 6000) × (m .second ≤ 6000)
+unfolding spansOf
+spans-low e s t q = by (holds periods s && holds periods t) refl q
+  where
+    by : (b : Bool) → (holds periods s && holds periods t) ≡ b → {m : Spans} → m ≡ pick b (record { whole = lcm s t; first = lcm s t / s; second = lcm s t / t }) (record { whole = 0; first = 0; second = 0 }) → (m .first ≤ 6000) × (m .second ≤ 6000)
+    by true h q =
+        let w = both {a = holds periods s} h in
+        let a = holds-at 1 6001 s (w .0) in
+        let b = holds-at 1 6001 t (w .1) in
+        let l : lcm s t ≤ s * t = lcm-le s t (a .0) (b .0) in
+        let x : lcm s t / s ≤ t = div-le-of-le-mul s l in
+        let y : lcm s t / t ≤ s = div-le-of-le-mul t (rw (mul-comm t s) l) in
+        rw q (omega arith, omega arith)
+    by false h q = rw q (omega arith, omega arith)
+
+-- a heading that was let through names two of the n tasks, and its pairs leave room
+pub heading-bounds : (s : List ℕ) (at : ℕ) (low : Key) (n used x y c q : ℕ) {r : answer.Heading} → r ≡ headingAt s at low n used → r ≡ heading.Of x y c q → HeadingFacts n low x y c used
+heading-bounds s at low n used x y c q h e = heading-facts n low x y c used (heading-fits s at low n used x y c q (sym h ∙ e))
+
+-- and makes so many links at most
+pub links-low : (n h p : ℕ) {t : ℕ} {low : Key} {a b used x : ℕ} → x ≡ linksIn n h p → HeadingFacts t low a b n used → h ≤ 6000 → x ≤ 6144000
+unfolding linksIn
+links-low n h p {used = used} {x} q f l = by (eqb p 0) q
+  where
+    by : (b : Bool) → x ≡ pick b 0 (n * (h / p)) → x ≤ 6144000
+    by true q = omega arith
+    by false q =
+        let b : n * (h / p) ≤ 1024 * 6000 = mul-le-mul {n₁ = n} {m₁ = h / p} {n₂ = 1024} {m₂ = 6000} (omega (arith, f .room)) (omega (arith, div-le-self h p)) in
+        omega arith
+
+-- counts and cycle that were let through
+pub opening-low : (s : List ℕ) (e n m q : ℕ) {o : Opening} → o ≡ openingOf s → o ≡ opening.Of e n m q → n ≤ 64
+opening-low s e n m q p w = few-tasks e n m (opening-fits s e n m q (sym p ∙ w))
+
+pub middle-low : (s : List ℕ) (at : ℕ) (t : Tasks) (c : Cycle) (k q : ℕ) {w : Middle}
+    → w ≡ middleFrom s at t → w ≡ middle.Of c k q → (k ≤ 64) × (c .ticks ≤ 6000)
+unfolding cycleFits
+middle-low s at t c k q p e =
+    let f = middle-fits s at t c k q (sym p ∙ e) in
+    (omega (arith, holds-at 0 65 k (f .few)), omega (arith, f .ticks, leb-true (cycle t) 6000 (both {a = leb (cycle t) 6000} (f .cycle-fits) .0)))
+
+-- ---- where the periods are in their range, the answer's ticks are 0 exactly where rule 5 is broken
+module _ (t : Tasks) {r : Cycle} (fit : periodsFit t ≡ true) (e : r ≡ cycleOf t) where
+  told : r ≡ pick (cycleFits t) ((cycleIs t)) noCycle
+  unfolding cycleOf
+  told = e ∙ rw fit
+
+  pub cycle-broken : r .ticks ≡ 0 → cycleFits t ≡ false
+  cycle-broken z =
+      fails
+      (λ p.
+      let c : r .ticks ≡ cycle t = ap (λ (x : Cycle). x .ticks) told ∙ rw p in
+      omega (arith, cycle-pos t))
+
+  pub cycle-kept : (r .ticks ≡ 0 → ⊥) → (cycleFits t ≡ true) × (r ≡ cycleIs t)
+  cycle-kept z = by (cycleFits t) refl told
+    where
+      by : (b : Bool) → cycleFits t ≡ b → r ≡ pick b ((cycleIs t)) noCycle → (cycleFits t ≡ true) × (r ≡ cycleIs t)
+      by true p q = (p, q)
+      by false p q = absurd (z (ap (λ (x : Cycle). x .ticks) q))

@@ -1,0 +1,136 @@
+-- The tables of a plan file: tasks, patterns and their pairs. Each definition reads on from a place, and stops at the first refusal.
+use mathlib.Core.Bool.{Bool, true, false, _&&_}
+use mathlib.Core.List.{List}
+use Prim.Native.Nat.{ℕ, zero, suc, _+_}
+use lib.Dec.{leb, eqb}
+use lib.ListN.{replicate}
+use Rattle.vocabulary.specs.Test.{pick}
+use Rattle.kinds.specs.declared.Key.{Key}
+use Rattle.kinds.specs.declared.Spans.{Spans}
+use Rattle.kinds.specs.declared.Task.{Task}
+use Rattle.kinds.specs.Limits.{range, periods, runnings, offsets, deadlines, mostPairs, noKey, after, firstRange, secondRange}
+use Rattle.kinds.specs.Tasks.{Tasks, taskOf, period, putTask, putHeading, putPair}
+use Rattle.kinds.specs.Links.{spansOf, linksIn}
+use Rattle.numbers.specs.declared.Refusal.the-variants as refusal
+use Rattle.heads.specs.declared.TaskRead.{TaskRead}
+use Rattle.heads.specs.declared.TaskRead.the-variants as taskRead
+use Rattle.heads.specs.declared.Two.{Two}
+use Rattle.heads.specs.declared.Two.the-variants as two
+use Rattle.heads.specs.declared.Heading.{Heading}
+use Rattle.heads.specs.declared.Heading.the-variants as heading
+use Rattle.heads.specs.declared.Outcome.{Outcome}
+use Rattle.heads.specs.declared.Outcome.the-variants as outcome
+use Rattle.heads.specs.declared.Linked.{Linked}
+use Rattle.heads.specs.declared.Linked.the-variants as linked
+use Rattle.numbers.specs.Numbers.{gotAt, andThen}
+
+-- ---- tasks
+-- "per task T, C, O, D"; "C is tested against T when read (1 ≤ C ≤ T), O against T, D against C and T."
+unfoldable pub taskFrom : List ℕ → ℕ → TaskRead
+taskFrom s p =
+    andThen taskRead.Refused (gotAt s p periods (refusal.OutOfLimits p)) λ t p₁.
+    andThen taskRead.Refused (gotAt s p₁ (runnings t) (refusal.OutOfLimits p₁)) λ c p₂.
+    andThen taskRead.Refused (gotAt s p₂ (offsets t) (refusal.OutOfLimits p₂)) λ o p₃.
+    andThen taskRead.Refused (gotAt s p₃ (deadlines t c) (refusal.OutOfLimits p₃)) λ d p₄.
+    taskRead.Task (taskOf t c o d) p₄
+
+abbrev pub noAttributes : List ℕ
+noAttributes = replicate 256 0
+
+-- what reading tasks answers, and the table that it leaves
+pub record TasksRead : Type 0 where
+  pub outcome : Outcome
+  pub table : List ℕ
+
+abbrev pub tasksRead : Outcome → List ℕ → TasksRead
+tasksRead o u = record { outcome = o; table = u }
+
+unfoldable pub onTask : TaskRead → List ℕ → (Task → ℕ → TasksRead) → TasksRead
+onTask (taskRead.Task t next) u k = k t next
+onTask (taskRead.Refused r) u k = tasksRead (outcome.Refused r) u
+
+-- k tasks more, from a place, into the table u at i and after
+unfoldable pub tasksFrom : List ℕ → ℕ → ℕ → ℕ → List ℕ → TasksRead
+tasksFrom s zero i at u = tasksRead (outcome.At at) u
+tasksFrom s (suc k) i at u = onTask (taskFrom s at) u λ t next. tasksFrom s k (i + 1) next (putTask u i t)
+
+-- ---- two numbers in order
+-- "Order faults of patterns lie at the to-task when the from-tasks are equal, else at the from-task; of pairs at b when the first numbers are equal,
+-- else at a." "from = to, a fault at the to-task".
+unfoldable pub twoAt : List ℕ → ℕ → Key → ℕ → ℕ → Bool → Two
+twoAt s p low limitA limitB apart =
+    andThen two.Refused (gotAt s p (firstRange low limitA) (refusal.Disordered p)) λ x p₁.
+    andThen two.Refused (gotAt s p₁ (secondRange low x limitB) (refusal.Disordered p₁)) λ y p₂.
+    pick (apart && eqb x y) (two.Refused (refusal.Disordered p₁)) (two.Both x y p₂)
+
+-- ---- pairs
+pub record PairsRead : Type 0 where
+  pub outcome : Outcome
+  pub table : List ℕ
+
+abbrev pub pairsRead : Outcome → List ℕ → PairsRead
+pairsRead o u = record { outcome = o; table = u }
+
+unfoldable pub onTwo : Two → List ℕ → (ℕ → ℕ → ℕ → PairsRead) → PairsRead
+onTwo (two.Both x y next) u k = k x y next
+onTwo (two.Refused r) u k = pairsRead (outcome.Refused r) u
+
+-- k pairs more, from a place, into the table u at j and after
+unfoldable pub pairsFrom : List ℕ → ℕ → ℕ → Key → ℕ → ℕ → ℕ → List ℕ → PairsRead
+pairsFrom s zero at low limitA limitB j u = pairsRead (outcome.At at) u
+pairsFrom s (suc k) at low limitA limitB j u =
+    onTwo (twoAt s at low limitA limitB false) u λ x y next.
+    pairsFrom s k next (after x y) limitA limitB (j + 1) (putPair u j x y)
+
+-- ---- patterns
+-- "per pattern from-task, to-task, pair count": a pair count is 1 at least (6), and carries the total to 1,024 at most (4). No number of a file is
+-- over 2,097,151.
+unfoldable pub onTwoHeading : Two → (ℕ → ℕ → ℕ → Heading) → Heading
+onTwoHeading (two.Both x y next) k = k x y next
+onTwoHeading (two.Refused r) k = heading.Refused r
+
+unfoldable pub headingAt : List ℕ → ℕ → Key → ℕ → ℕ → Heading
+headingAt s at low n used =
+    onTwoHeading (twoAt s at low n n true) λ x y p.
+    andThen heading.Refused (gotAt s p (range 1 2097152) (refusal.Disordered p)) λ c q.
+    pick (leb (used + c) mostPairs) (heading.Of x y c q) (heading.Refused (refusal.OutOfLimits p))
+
+pub record PatternTables : Type 0 where
+  pub headings : List ℕ
+  pub pairs : List ℕ
+
+abbrev pub patternTables : List ℕ → List ℕ → PatternTables
+patternTables hs ps = record { headings = hs; pairs = ps }
+
+abbrev pub noPatternTables : PatternTables
+noPatternTables = patternTables (replicate 192 0) (replicate 2048 0)
+
+abbrev pub withPattern : PatternTables → ℕ → ℕ → ℕ → ℕ → List ℕ → PatternTables
+withPattern u i x y n ps = patternTables (putHeading (u .headings) i x y n) ps
+
+pub record PatternsRead : Type 0 where
+  pub outcome : Linked
+  pub tables : PatternTables
+
+abbrev pub patternsRead : Linked → PatternTables → PatternsRead
+patternsRead o u = record { outcome = o; tables = u }
+
+unfoldable pub onHeading : Heading → PatternTables → (ℕ → ℕ → ℕ → ℕ → PatternsRead) → PatternsRead
+onHeading (heading.Of x y n p) u k = k x y n p
+onHeading (heading.Refused r) u k = patternsRead (linked.Refused r) u
+
+unfoldable pub onPairs : Outcome → PatternTables → (ℕ → PatternsRead) → PatternsRead
+onPairs (outcome.At q) u k = k q
+onPairs (outcome.Refused r) u k = patternsRead (linked.Refused r) u
+
+-- k patterns more, from a place, into the tables u at i and after: e is the edition, t are the tasks, h is the cycle, used and links are the pairs
+-- and the links so far
+unfoldable pub patternsFrom : List ℕ → ℕ → Tasks → ℕ → ℕ → ℕ → ℕ → Key → ℕ → ℕ → PatternTables → PatternsRead
+patternsFrom s e t h zero i at low used links u = patternsRead (linked.At at links) u
+patternsFrom s e t h (suc k) i at low used links u =
+    onHeading (headingAt s at low (t .count) used) u λ x y c p.
+    let m : Spans = spansOf e (period t x) (period t y) in
+    let r : PairsRead = pairsFrom s c p noKey (m .first) (m .second) used (u .pairs) in
+    let v : PatternTables = withPattern u i x y c (r .table) in
+    onPairs (r .outcome) v λ q.
+    patternsFrom s e t h k (i + 1) q (after x y) (used + c) (links + linksIn c h (m .whole)) v

@@ -1,0 +1,13 @@
+pub mod FirstJobLaws
+pub mod NeedLaws
+pub mod LaneLaws
+pub mod CountLaws
+pub mod LinkTableLaws
+pub mod EachJobGets
+pub mod Visit
+pub mod RowLaws
+pub mod HighLaws
+pub mod SweepLaws
+pub mod VerdictChain
+pub mod HeadVerdict
+pub mod Broken

@@ -1,0 +1,96 @@
+-- The ways through a file after its head, each by the answers of its parts.
+use mathlib.Core.Path.{_≡_, refl, _∙_}
+use mathlib.Core.List.{List}
+use Prim.Native.Nat.{ℕ, suc, _+_, _-_, _*_, _<_, _≤_}
+use native.Mathlib.Omega.{arith}
+use lib.Dec.{leb, ltb}
+use lib.ListN.{length, getD}
+use Rattle.vocabulary.specs.Test.{pick}
+use Rattle.kinds.specs.declared.TaskSet.{TaskSet}
+use Rattle.numbers.specs.declared.Refusal.{Refusal}
+use Rattle.numbers.specs.declared.Refusal.the-variants as refusal
+use Rattle.heads.specs.declared.Outcome.{Outcome}
+use Rattle.heads.specs.declared.Outcome.the-variants as outcome
+use Rattle.heads.specs.Tables.{PatternTables, noAttributes, noPatternTables}
+use Rattle.kinds.specs.declared.Counts.{Counts}
+use Rattle.reader.specs.declared.Loaded.{Loaded}
+use Rattle.reader.specs.declared.Taking.{Taking}
+use Rattle.heads.specs.declared.Head.{Head}
+use Rattle.heads.specs.declared.Head.the-variants as head
+use Rattle.heads.specs.Heads.{headRead, headFrom, setOf}
+use Rattle.reader.specs.Files.{slotsFrom, loaded, refused, onSlots, closedOf, onHead, readOf, notTaken, wholeOf, takeHead, takenOf, onEnd, endedOf}
+
+-- what is left of a count, one turn earlier, and at the end
+left : (n i : ℕ) → i < n → n - i ≡ suc (n - (i + 1))
+left n i h = omega arith
+
+none : (n i : ℕ) → n ≤ i → n - i ≡ 0
+none n i h = omega arith
+
+-- ---- slots
+pub slots-step : (s : List ℕ) (k i at n : ℕ) → i < k → slotsFrom s (k - i) at n
+    ≡ pick (leb (length s) at) (outcome.Refused (refusal.Ends (length s))) (pick (ltb n (getD s at 0)) (outcome.Refused (refusal.BadSlot at)) (slotsFrom s (k - (i + 1)) (at + 1) n))
+unfolding slotsFrom
+slots-step s k i at n h = rw (left k i h)
+
+pub slots-none : (s : List ℕ) (k i at n : ℕ) → k ≤ i → slotsFrom s (k - i) at n ≡ pick (ltb at (length s)) (outcome.Refused (refusal.LeftOver at)) (outcome.At at)
+unfolding slotsFrom
+slots-none s k i at n h = rw (none k i h)
+
+-- ---- the whole file: the head is refused; the slots are; neither is
+pub read-refused : (s : List ℕ) (t : List ℕ) (v : PatternTables) {o : Head} {r : Refusal}
+    → headRead o t v ≡ headFrom s noAttributes noPatternTables → o ≡ head.Refused r → refused r ≡ readOf s
+unfolding readOf onHead
+read-refused s t v a b = rw (← a, b)
+
+pub closed-stopped : (s : List ℕ) (at : ℕ) (f : Counts) (u : TaskSet) {k : ℕ} {q : Outcome} {r : Refusal}
+    → k ≡ f .processors * f .ticks → q ≡ slotsFrom s k at (f .tasks) → q ≡ outcome.Refused r → refused r ≡ closedOf s at f u
+unfolding onSlots
+closed-stopped s at f u c d e = rw (← c, ← d, e)
+
+pub closed-whole : (s : List ℕ) (at : ℕ) (f : Counts) (u : TaskSet) {k p : ℕ} {q : Outcome}
+    → k ≡ f .processors * f .ticks → q ≡ slotsFrom s k at (f .tasks) → q ≡ outcome.At p → loaded (outcome.At at) u ≡ closedOf s at f u
+unfolding onSlots
+closed-whole s at f u c d e = rw (← c, ← d, e)
+
+pub read-closed : (s : List ℕ) (t : List ℕ) (v : PatternTables) {o : Head} {f : Counts} {at : ℕ} {u : TaskSet} {l : Loaded}
+    → headRead o t v ≡ headFrom s noAttributes noPatternTables → o ≡ head.Of f at → u ≡ setOf f t v → l ≡ closedOf s at f u → l ≡ readOf s
+unfolding readOf onHead
+read-closed s t v a b g q = q ∙ rw (g, ← a, b)
+
+-- ---- the head alone: it is refused; bytes are left over; neither
+pub taken-refused : (s : List ℕ) (t : List ℕ) (v : PatternTables) {o : Head} {r : Refusal}
+    → headRead o t v ≡ headFrom s noAttributes noPatternTables → o ≡ head.Refused r → notTaken ≡ takenOf s
+unfolding takenOf takeHead
+taken-refused s t v a b = rw (← a, b)
+
+pub taken-closed : (s : List ℕ) (t : List ℕ) (v : PatternTables) {o : Head} {f : Counts} {at : ℕ} {u : TaskSet} {x : Taking}
+    → headRead o t v ≡ headFrom s noAttributes noPatternTables → o ≡ head.Of f at → u ≡ setOf f t v → x ≡ wholeOf at (length s) u → x ≡ takenOf s
+unfolding takenOf takeHead
+taken-closed s t v a b g q = q ∙ rw (g, ← a, b)
+
+-- ---- the answer alone
+pub ended-stopped : (s : List ℕ) (at : ℕ) (f : Counts) {k : ℕ} {q : Outcome} {r : Refusal}
+    → k ≡ f .processors * f .ticks → q ≡ slotsFrom s k at (f .tasks) → q ≡ outcome.Refused r → outcome.Refused r ≡ endedOf s at f
+unfolding onEnd
+ended-stopped s at f c d e = rw (← c, ← d, e)
+
+pub ended-whole : (s : List ℕ) (at : ℕ) (f : Counts) {k p : ℕ} {q : Outcome}
+    → k ≡ f .processors * f .ticks → q ≡ slotsFrom s k at (f .tasks) → q ≡ outcome.At p → outcome.At at ≡ endedOf s at f
+unfolding onEnd
+ended-whole s at f c d e = rw (← c, ← d, e)
+
+pub answer-refused : (s : List ℕ) (t : List ℕ) (v : PatternTables) {o : Head} {r : Refusal}
+    → headRead o t v ≡ headFrom s noAttributes noPatternTables → o ≡ head.Refused r → outcome.Refused r ≡ readOf s .outcome
+unfolding readOf onHead
+answer-refused s t v a b = rw (← a, b)
+
+ended-is : (o : Outcome) (at : ℕ) (u : TaskSet) → onEnd o at ≡ onSlots o (loaded (outcome.At at) u) .outcome
+unfolding onEnd onSlots
+ended-is (outcome.At q) at u = refl
+ended-is (outcome.Refused r) at u = refl
+
+pub answer-ended : (s : List ℕ) (t : List ℕ) (v : PatternTables) {o : Head} {f : Counts} {at : ℕ} {q : Outcome}
+    → headRead o t v ≡ headFrom s noAttributes noPatternTables → o ≡ head.Of f at → q ≡ endedOf s at f → q ≡ readOf s .outcome
+unfolding readOf onHead
+answer-ended s t v {f = f} {at = at} a b q = q ∙ ended-is (slotsFrom s (f .processors * f .ticks) at (f .tasks)) at (setOf f t v) ∙ rw (← a, b)

@@ -1,0 +1,130 @@
+// Tables for a small and for the largest set, so that a small one pays for its own size.
+ghost use lib.ListN.{length};
+ghost use Rattle.screen.specs.Tables.{tableSet, Numbered};
+ghost use Rattle.screen.specs.Outcome.{FitsTables, FitsBuffers, BuffersAsked, FoundIn, WroteIn};
+use crate::Found;
+use crate::links::expand;
+use crate::sums::most_links;
+use crate::times::look_in;
+use crate::times::write_in;
+use kinds::Attributes;
+use kinds::Counts;
+use kinds::Headings;
+use kinds::Pairs;
+use kinds::wide;
+
+fn look_small(f: Counts, attributes: &Attributes, headings: &Headings, pairs: &Pairs) -> Found
+    requires { ⌜ FitsTables f (now attributes) (now headings) (now pairs) 256 512 ⌝ }
+    ensures { λ r. ⌜ FoundIn (tableSet f (now (attributes .entry)) (now (headings .entry)) (now (pairs .entry))) r ⌝ }
+{
+    let n = wide(f.jobs);
+    let mut links = [[0u16; 2]; 512];
+    let mut next = [0u16; 512];
+    let mut jobs = [[0u32; 3]; 256];
+    let e = expand(f, attributes, headings, pairs, &mut links);
+    look_in(f, attributes, &links[..e], &mut next[..e], &mut jobs[..n])
+}
+
+fn look_large(f: Counts, attributes: &Attributes, headings: &Headings, pairs: &Pairs) -> Found
+    requires { ⌜ FitsTables f (now attributes) (now headings) (now pairs) 2048 4096 ⌝ }
+    ensures { λ r. ⌜ FoundIn (tableSet f (now (attributes .entry)) (now (headings .entry)) (now (pairs .entry))) r ⌝ }
+{
+    let n = wide(f.jobs);
+    let mut links = [[0u16; 2]; 4096];
+    let mut next = [0u16; 4096];
+    let mut jobs = [[0u32; 3]; 2048];
+    let e = expand(f, attributes, headings, pairs, &mut links);
+    look_in(f, attributes, &links[..e], &mut next[..e], &mut jobs[..n])
+}
+
+// The lowest job on a cycle; where there is none, the lowest that is too tight.
+pub(crate) fn look(f: Counts, attributes: &Attributes, headings: &Headings, pairs: &Pairs) -> Found
+    requires { ⌜ Numbered f (now attributes) (now headings) (now pairs) ⌝ }
+    ensures { λ r. ⌜ FoundIn (tableSet f (now (attributes .entry)) (now (headings .entry)) (now (pairs .entry))) r ⌝ }
+{
+    let n = wide(f.jobs);
+    if n <= 256 {
+        if most_links(f, attributes, headings) <= 512 {
+            return look_small(f, attributes, headings, pairs);
+        }
+    }
+    look_large(f, attributes, headings, pairs)
+}
+
+fn write_small(
+    f: Counts,
+    attributes: &Attributes,
+    headings: &Headings,
+    pairs: &Pairs,
+    releases: &mut [i32],
+    deadlines: &mut [i32],
+) -> usize
+    requires { ⌜ FitsBuffers f (now attributes) (now headings) (now pairs) 256 512 (length (now releases)) (length (now deadlines)) ⌝ }
+    ensures { λ r. ⌜ WroteIn (tableSet f (now (attributes .entry)) (now (headings .entry)) (now (pairs .entry))) r
+        (now (releases .entry)) (now (deadlines .entry)) (now (releases .exit)) (now (deadlines .exit)) ⌝ }
+{
+    let n = wide(f.jobs);
+    let mut links = [[0u16; 2]; 512];
+    let mut next = [0u16; 512];
+    let mut jobs = [[0u32; 3]; 256];
+    let e = expand(f, attributes, headings, pairs, &mut links);
+    write_in(
+        f,
+        attributes,
+        &links[..e],
+        &mut next[..e],
+        &mut jobs[..n],
+        releases,
+        deadlines,
+    )
+}
+
+fn write_large(
+    f: Counts,
+    attributes: &Attributes,
+    headings: &Headings,
+    pairs: &Pairs,
+    releases: &mut [i32],
+    deadlines: &mut [i32],
+) -> usize
+    requires { ⌜ FitsBuffers f (now attributes) (now headings) (now pairs) 2048 4096 (length (now releases)) (length (now deadlines)) ⌝ }
+    ensures { λ r. ⌜ WroteIn (tableSet f (now (attributes .entry)) (now (headings .entry)) (now (pairs .entry))) r
+        (now (releases .entry)) (now (deadlines .entry)) (now (releases .exit)) (now (deadlines .exit)) ⌝ }
+{
+    let n = wide(f.jobs);
+    let mut links = [[0u16; 2]; 4096];
+    let mut next = [0u16; 4096];
+    let mut jobs = [[0u32; 3]; 2048];
+    let e = expand(f, attributes, headings, pairs, &mut links);
+    write_in(
+        f,
+        attributes,
+        &links[..e],
+        &mut next[..e],
+        &mut jobs[..n],
+        releases,
+        deadlines,
+    )
+}
+
+// The lowest job on a cycle; where there is none, adjusted times are written into buffers with a place for each job.
+pub(crate) fn write_sized(
+    f: Counts,
+    attributes: &Attributes,
+    headings: &Headings,
+    pairs: &Pairs,
+    releases: &mut [i32],
+    deadlines: &mut [i32],
+) -> usize
+    requires { ⌜ BuffersAsked f (now attributes) (now headings) (now pairs) (length (now releases)) (length (now deadlines)) ⌝ }
+    ensures { λ r. ⌜ WroteIn (tableSet f (now (attributes .entry)) (now (headings .entry)) (now (pairs .entry))) r
+        (now (releases .entry)) (now (deadlines .entry)) (now (releases .exit)) (now (deadlines .exit)) ⌝ }
+{
+    let n = wide(f.jobs);
+    if n <= 256 {
+        if most_links(f, attributes, headings) <= 512 {
+            return write_small(f, attributes, headings, pairs, releases, deadlines);
+        }
+    }
+    write_large(f, attributes, headings, pairs, releases, deadlines)
+}
