@@ -45,7 +45,8 @@ breaks-again s f slots k q n lk =
     (from-again s f k lk q n) (to-again s f k lk q n)
 
 pub kept-again : (s : Set) → Sound s → (slots : List ℕ) (k q n : ℕ) → k < s .patterns .count
-    → (let u = s .tasks in let v = s .patterns in let r : ℕ = n % repeats u v k in LinkKept u (planOf s slots) (fromTask v k) (linkFrom u v k q n) (toTask v k) (linkTo u v k q n) ↔ LinkKept u (planOf s slots) (fromTask v k) (linkFrom u v k q r) (toTask v k) (linkTo u v k q r))
+    → (let u = s .tasks in let v = s .patterns in let r : ℕ = n % repeats u v k in LinkKept u (planOf s slots) (fromTask v k) (linkFrom u v k q n)
+    (toTask v k) (linkTo u v k q n) ↔ LinkKept u (planOf s slots) (fromTask v k) (linkFrom u v k q r) (toTask v k) (linkTo u v k q r))
 unfolding breaks
 kept-again s f slots k q n lk =
     let u = s .tasks in

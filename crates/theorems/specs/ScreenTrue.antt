@@ -1,12 +1,14 @@
 -- A finding's evidence is what it says, and it is the only finding that the set allows.
 use mathlib.Core.Path.{_≡_, refl, sym, ap, ap₂, _∙_, subst}
-use mathlib.Core.Bool.{true, false}
-use mathlib.Core.Logic.{_⊎_, inl, inr, _↔_}
+use mathlib.Core.Bool.{true, false, not}
+use mathlib.Core.List.{List, [], _∷_}
+use mathlib.Core.Logic.{_↔_}
 use Prim.Native.Nat.{ℕ, _+_, _≤_, _<_}
 use native.Mathlib.Omega.{arith}
 use lib.IntN.{ℤ, pos}
 use lib.Signed.{ltZ}
-use Rattle.vocabulary.specs.Test.{decide, lt-or-le}
+use borrow.Author.Tests.{le-ltb, ltb-true, ltb-false, not-true, not-false}
+use Rattle.vocabulary.specs.First.{Claim, claim, numbersOf, earlier, Each, _also_, Told, first-told, KeptBy}
 use Rattle.vocabulary.specs.Lowest.{Lowest, least-lowest, lowest-is, least-none, none-least}
 use Rattle.graph.specs.Graph.{Way}
 use Rattle.graph.specs.Reach.{loops-iff}
@@ -22,7 +24,8 @@ use Rattle.screen.specs.declared.Finding.the-variants as finding
 use Rattle.screen.specs.Network.{network}
 use Rattle.screen.specs.NetworkLaws.{inside-network}
 use Rattle.screen.specs.Times.{ownRunning, AdjustedReleases, AdjustedDeadlines, adjustedRelease, adjustedDeadline}
-use Rattle.screen.specs.Findings.{onCycle, load, room, tight, findingOf}
+use Rattle.screen.specs.Answers.{findingNumber}
+use Rattle.screen.specs.Findings.{onCycle, load, room, tight, screenRules, findingOf}
 use Rattle.screen.specs.Findings.{lowestCycle, lowestTight}
 use Rattle.screen.specs.Order.{not-sound, on-cycle, overloaded, too-tight, nothing-found}
 use Rattle.theorems.specs.ScreenTimes.{NoCycle, adjusted-releases, adjusted-releases-only, adjusted-deadlines, adjusted-deadlines-only}
@@ -141,38 +144,6 @@ module _ (s : Set) (e : sound s ≡ true) where
   free-lowest : NoCycle (s .tasks) (s .patterns) → jobs (s .tasks) ≤ lowestCycle s
   free-lowest free = none-least (onCycle u v) (OnCycle u v) (jobs u) cycle-iff (free .each)
 
-  -- ---- what is found is so
-  true-rest : NoCycle (s .tasks) (s .patterns) → load (s .tasks) ≤ room s → Finds s (findingOf s)
-  unfolding Finds
-  true-rest free light = go (lt-or-le (lowestTight s) (jobs u))
-    where
-      go : (lowestTight s < jobs u) ⊎ (jobs u ≤ lowestTight s) → Finds s (findingOf s)
-      go (inl l) =
-          let w = least-lowest (tight u v) (Tight u v) (jobs u) (tight-iff free) l in
-          rw (too-tight s e (free-lowest free) light l)
-          (record { is-sound = e; no-cycle = free; no-overload = light; lowest = job-from u (Tight u v) (lowestTight s) w })
-      go (inr l) =
-          rw (nothing-found s e (free-lowest free) light l)
-          (record { is-sound = e; no-cycle = free; no-overload = light; none-tight = least-none (tight u v) (Tight u v) (jobs u) (tight-iff free) l })
-
-  true-load : NoCycle (s .tasks) (s .patterns) → Finds s (findingOf s)
-  unfolding Finds
-  true-load free = go (lt-or-le (room s) (load u))
-    where
-      go : (room s < load u) ⊎ (load u ≤ room s) → Finds s (findingOf s)
-      go (inl l) = rw (overloaded s e (free-lowest free) l) (record { is-sound = e; no-cycle = free; sum = refl; slots = refl; over = l })
-      go (inr l) = true-rest free l
-
-  true-cycle : Finds s (findingOf s)
-  unfolding Finds
-  true-cycle = go (lt-or-le (lowestCycle s) (jobs u))
-    where
-      go : (lowestCycle s < jobs u) ⊎ (jobs u ≤ lowestCycle s) → Finds s (findingOf s)
-      go (inl l) =
-          let w = least-lowest (onCycle u v) (OnCycle u v) (jobs u) cycle-iff l in
-          rw (on-cycle s e l) (record { is-sound = e; lowest = job-from u (OnCycle u v) (lowestCycle s) w })
-      go (inr l) = true-load (record { each = least-none (onCycle u v) (OnCycle u v) (jobs u) cycle-iff l })
-
   -- ---- what is so is found
   only-nothing : FoundNothing s → finding.Nothing ≡ findingOf s
   only-nothing w =
@@ -197,16 +168,94 @@ module _ (s : Set) (e : sound s ≡ true) where
       same-job u (Tight u v) finding.TooTight i k (lowestTight s) (w .lowest) x
       ∙ sym (too-tight s e (free-lowest (w .no-cycle)) (w .no-overload) (omega (arith, m .low)))
 
+-- ---- the chain of findings
+-- what each rule of the screen says where it is kept, by its number
+unfoldable pub screenClaims : Set → List Claim
+screenClaims s =
+    claim 10 (sound s ≡ true)
+    ∷ claim 13 (jobs (s .tasks) ≤ lowestCycle s)
+    ∷ claim 14 (load (s .tasks) ≤ room s)
+    ∷ claim 15 (jobs (s .tasks) ≤ lowestTight s)
+    ∷ []
+
+-- and what its answer says where it is broken
+unfoldable FoundBy : Set → Finding → Type 0
+FoundBy s finding.Nothing = Unit {0}
+FoundBy s finding.BadSet = sound s ≡ false
+FoundBy s (finding.Cycle i k) =
+    (lowestCycle s < jobs (s .tasks)) × (i ≡ taskOfJob (s .tasks) (lowestCycle s)) × (k ≡ jobOfJob (s .tasks) (lowestCycle s))
+FoundBy s (finding.Overload a b) = (room s < load (s .tasks)) × (a ≡ load (s .tasks)) × (b ≡ room s)
+FoundBy s (finding.TooTight i k) =
+    (lowestTight s < jobs (s .tasks)) × (i ≡ taskOfJob (s .tasks) (lowestTight s)) × (k ≡ jobOfJob (s .tasks) (lowestTight s))
+
+told : (s : Set) → Each (Told (KeptBy (screenClaims s)) (FoundBy s) findingNumber) (screenRules s)
+unfolding screenClaims KeptBy FoundBy screenRules
+told s =
+    record { kept = (λ e. not-false (sound s) e, λ k. ap not k); breach = λ e. not-true (sound s) e; number = refl }
+    also record {
+      kept = (λ e. ltb-false (lowestCycle s) (jobs (s .tasks)) e, λ k. le-ltb (lowestCycle s) (jobs (s .tasks)) k);
+      breach = λ e. (ltb-true (lowestCycle s) (jobs (s .tasks)) e, refl, refl);
+      number = refl;
+    }
+    also record {
+      kept = (λ e. ltb-false (room s) (load (s .tasks)) e, λ k. le-ltb (room s) (load (s .tasks)) k);
+      breach = λ e. (ltb-true (room s) (load (s .tasks)) e, refl, refl);
+      number = refl;
+    }
+    also record {
+      kept = (λ e. ltb-false (lowestTight s) (jobs (s .tasks)) e, λ k. le-ltb (lowestTight s) (jobs (s .tasks)) k);
+      breach = λ e. (ltb-true (lowestTight s) (jobs (s .tasks)) e, refl, refl);
+      number = refl;
+    }
+    also tt
+
+-- every rule of the screen before a number is kept
+abbrev KeptBefore : Set → ℕ → Type 0
+KeptBefore s n = (m : ℕ) → earlier (numbersOf (screenRules s)) m n ≡ true → KeptBy (screenClaims s) m
+
+-- where the rules before a finding are kept and its own is broken as it says, the finding is true
+module _ (s : Set) where
+  free : sound s ≡ true → jobs (s .tasks) ≤ lowestCycle s → NoCycle (s .tasks) (s .patterns)
+  free e l = record { each = least-none (onCycle (s .tasks) (s .patterns)) (OnCycle (s .tasks) (s .patterns)) (jobs (s .tasks)) (cycle-iff s e) l }
+
+  meant : (f : Finding) → KeptBefore s (findingNumber f) → FoundBy s f → Finds s f
+  unfolding Finds FoundBy screenClaims KeptBy screenRules earlier
+  meant finding.Nothing k w =
+      let e = k 10 refl in
+      let c = free e (k 13 refl) in
+      record {
+        is-sound = e;
+        no-cycle = c;
+        no-overload = k 14 refl;
+        none-tight = least-none (tight (s .tasks) (s .patterns)) (Tight (s .tasks) (s .patterns)) (jobs (s .tasks)) (tight-iff s e c) (k 15 refl);
+      }
+  meant finding.BadSet k w = record { unsound = w }
+  meant (finding.Cycle i j) k w =
+      let e = k 10 refl in
+      let x = least-lowest (onCycle (s .tasks) (s .patterns)) (OnCycle (s .tasks) (s .patterns)) (jobs (s .tasks)) (cycle-iff s e) (w .0) in
+      record { is-sound = e; lowest = rw (w .1, w .2) (job-from (s .tasks) (OnCycle (s .tasks) (s .patterns)) (lowestCycle s) x) }
+  meant (finding.Overload a b) k w =
+      let e = k 10 refl in
+      record { is-sound = e; no-cycle = free e (k 13 refl); sum = w .1; slots = w .2; over = rw (w .1, w .2) (w .0) }
+  meant (finding.TooTight i j) k w =
+      let e = k 10 refl in
+      let c = free e (k 13 refl) in
+      let x = least-lowest (tight (s .tasks) (s .patterns)) (Tight (s .tasks) (s .patterns)) (jobs (s .tasks)) (tight-iff s e c) (w .0) in
+      record {
+        is-sound = e;
+        no-cycle = c;
+        no-overload = k 14 refl;
+        lowest = rw (w .1, w .2) (job-from (s .tasks) (Tight (s .tasks) (s .patterns)) (lowestTight s) x);
+      }
+
 -- ==== A finding's evidence is what it says: 10 is given for a set that is not sound; 13 with the lowest job that lies on a cycle; 14 with the sum
 -- of C·H/T and m·H, where no job lies on one and the first is over the second; 15 with the lowest job whose adjusted release + C is over its adjusted
--- deadline, where 13 and 14 do not hold; and nothing where none of them does.
+-- deadline, where 13 and 14 do not hold; and nothing where none of them does. It follows from what is said of the first broken rule of any chain.
 pub finding-true : (s : Set) → Finds s (findingOf s)
-unfolding Finds
-finding-true s = go (decide (sound s))
-  where
-    go : (sound s ≡ true) ⊎ (sound s ≡ false) → Finds s (findingOf s)
-    go (inl e) = true-cycle s e
-    go (inr e) = rw (not-sound s e) (record { unsound = e })
+unfolding findingOf FoundBy
+finding-true s =
+    let w = first-told finding.Nothing (KeptBy (screenClaims s)) (FoundBy s) findingNumber (screenRules s) (told s) tt in
+    meant s (findingOf s) (w .0) (w .1)
 
 -- ==== And it is the only finding of which this can be said: two that are allowed are equal.
 pub only-finding : (s : Set) → (a : Finding) → Finds s a → a ≡ findingOf s
