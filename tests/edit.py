@@ -1,9 +1,12 @@
-"""How an edit is applied, for tests/definitions/run.py and tests/edits/run.py.
+"""How an edit is applied, for tests/definitions/run.py and tests/edits/run.py, and the functions that its comment names.
 
 An edit is a text with a comment and with `file:`, `old:` and `new:` lines, as the toolchain's must-fail edits have them: a `file:` line holds for the
 pairs of `old:` and `new:` after it, and each old text must stand exactly once in the file, as the pairs before it left it.
 """
-import os
+import os, re
+
+# `# of NAME: ` or `# of NAME, NAME: ` before the sentence: the public functions whose answers the edit makes wrong.
+NAMED = re.compile(r'# of (\w+(?:::\w+)*(?:, \w+(?:::\w+)*)*): ')
 
 
 def change(where, path):

@@ -11,6 +11,9 @@ import re
 import sys
 import textwrap
 
+sys.dont_write_bytecode = True
+from edit import NAMED
+
 TOP = os.path.join(os.path.dirname(os.path.abspath(__file__)), '..')
 
 # The statements behind each demand: file below crates/, name, and what it says in plain words. That they stand in the file is tested.
@@ -133,11 +136,11 @@ def crates_listed():
 
 
 def edits(*folders):
-    """Every edit in some folders by its label, with the sentence that it begins with, or else its label in words."""
+    """Every edit in some folders by its label, with the sentence that it begins with, behind the functions that it is of, or else its label in words."""
     found = {}
     for path in (path for folder in folders for path in files(folder, '.edit')):
         label = os.path.basename(path)[:-5]
-        said = [x.lstrip('# ').rstrip(' .') for x in read(path).split('\n') if x.startswith('#')]
+        said = [NAMED.sub('', x, 1).lstrip('# ').rstrip(' .') for x in read(path).split('\n') if x.startswith('#')]
         words = said[0] if said else label.replace('_', ' ')
         found[label] = words[:1].upper() + words[1:] + '.'
     return found
@@ -196,7 +199,7 @@ def proofs_section(lines, tried, crates):
     refused = {(m[1], m[2]) for m in (re.match(r'rt: must-fail (\w+)/(\w+): refused, as it must be', x) for x in lines) if m}
     refused |= {(m[1], m[2]) for m in (re.match(r'(\w+)/(\w+): refused at ', x) for x in tried) if m}
     for x in lines + tried:
-        if re.search(r'NOT PROVED|NOT REFUSED|BAD EDIT|NO FAILED FACT|NOT TRIED|its run FAILED|^rt: FAILED', x):
+        if re.search(r'NOT PROVED|NOT REFUSED|BAD EDIT|NO FAILED FACT|NOT TRIED|NO PUBLIC CONTRACT|only \d+ edits|its run FAILED|^rt: FAILED', x):
             problems.append('`' + x + '`')
     counts = {'functions': 0, 'public': 0, 'for C': 0, 'asking': 0, 'definitions': 0, 'laws': 0}
     rows = []

@@ -1,4 +1,4 @@
-"""The edits of the crates that take long to prove, over a warm cache.
+"""Wrong edits of the crates, over a warm cache.
 
 `rt ci` proves every crate from nothing and tries each must-fail edit from nothing too, which takes a whole proof of the crate for each. The edits here,
 tests/edits/NAME/*.edit, are of the same form and are tried over what does not change. For each crate with edits the runner
@@ -10,12 +10,17 @@ So every edit begins with the cache of the unedited crate, and none sees what an
 the edit took away, a text that does not parse, a crash) shows nothing, and is a failure. Of the edits that `rt ci` tried, crates/NAME/must-fail/*.edit, the
 logs that it left in target/must-fail are held to the same.
 
+An edit whose comment begins with `# of NAME: ` or `# of NAME, NAME: ` makes the answers of these public functions wrong (`Type::name` for a method,
+`module::name` in a public module). Every public function with an `ensures` has to be named by two edits at least, of both folders together: a case of its
+own, with one line for a crate that has them all. An edit that names a function that is not there is a failure.
+
 What is trusted: for the crates below, target/rlib and target/stamp. `rt ci` has just proved them from nothing, and rt compares their sources with their
 stamps on every call; what is not there, or is older than its source, is proved first. The cache is made in this run, from nothing; a fault in it could
 only show as an unedited crate that is not proved, as an edit that is not refused, or as a refusal at a fact that does hold. Nothing here is a verdict on
 a crate: that is `rt ci` alone.
 
-    tests/edits/run.py [FOLDER]     the edits of another folder, FOLDER/NAME/*.edit, and no logs
+    tests/edits/run.py [FOLDER]     the edits of another folder, FOLDER/NAME/*.edit, no logs and no count
+    tests/edits/run.py --count      only the count, without trying an edit
 
 RT_JOBS edits run at a time, as in rt; where it is not set, as many as there are processors, at most 4. The last line is 'N passed, M failed'.
 """
@@ -25,7 +30,7 @@ HERE = os.path.dirname(os.path.abspath(__file__))
 TOP = os.path.dirname(os.path.dirname(HERE))
 sys.dont_write_bytecode = True
 sys.path.insert(0, os.path.dirname(HERE))
-from edit import change
+from edit import NAMED, change
 
 WORK = os.path.join(TOP, 'target', 'edits')
 LONGEST = 900  # seconds for one check
@@ -53,6 +58,8 @@ TERM = re.compile(r'[≡≤<∣]|\bPath\b|(?<![\w.])[a-z]')
 ERROR = re.compile(r'^(\S+?):(\d+):\d+: error(?:\[[\w-]+\])?: (?:`[^`\n]+`: )?(.*(?:\n  .*)*)', re.M)
 SEARCH = re.compile(r'^note: what antt said of a `search` in the proof that rattle made: (\S+?):(\d+):\d+: `[^`\n]+`: (.*(?:\n  .*)*)', re.M)
 FOLLOWS = re.compile(r'`[^`\n]+` (was not admitted .* so this cannot be checked|cannot be unfolded because it was not admitted)')
+# The head of an impl, a public function up to its body, or the end of either at the margin.
+PUBLIC = re.compile(r'^impl\b.*?(\w+)(?:<.*>)? \{$|^ *pub (?:extern "C" )?fn (\w+)([\s\S]*?)\{$|^\}$', re.M)
 
 
 def listed():
@@ -180,9 +187,43 @@ def edits_in(folder):
     return [(f[:-5], os.path.join(folder, f)) for f in found]
 
 
-def main():
-    home = os.path.abspath(sys.argv[1]) if len(sys.argv) > 1 else HERE
-    crates = listed()
+def contracts(name):
+    """The public functions of a crate that have an `ensures`, as an edit names them."""
+    src = os.path.join(TOP, 'crates', name, 'src')
+    texts = {}
+    for file in sorted(os.listdir(src)):
+        with open(os.path.join(src, file), encoding='utf-8') as f:
+            texts[file[:-3]] = f.read()
+    modules = re.findall(r'^pub mod (\w+);', '\n'.join(texts.values()), re.M)
+    found = []
+    for module, text in texts.items():
+        owner = ''
+        for m in PUBLIC.finditer(text):
+            if not m[2]:
+                owner = m[1] + '::' if m[1] else ''
+            elif 'ensures' in m[3]:
+                found.append((module + '::' if module in modules else '') + owner + m[2])
+    return found
+
+
+def count(name):
+    """Counts the edits of each public contract of a crate: lines to print, and how many cases passed and failed."""
+    there, times, faults = contracts(name), {}, []
+    for folder in (os.path.join(TOP, 'crates', name, 'must-fail'), os.path.join(HERE, name)):
+        for label, path in edits_in(folder):
+            with open(path, encoding='utf-8') as f:
+                said = NAMED.match(f.readline())
+            for one in sorted(set(said[1].split(', '))) if said else []:
+                times[one] = times.get(one, 0) + 1
+                if one not in there:
+                    faults.append(f'{name}/{label}: NO PUBLIC CONTRACT of {name} is {one}')
+    few = [f'{name}::{one}: only {times.get(one, 0)} edits' for one in there if times.get(one, 0) < 2]
+    lines = few + faults or ([f'{name}: each of its {len(there)} public contracts has two edits'] if there else [])
+    return lines, len(there) - len(few), len(few) + len(faults)
+
+
+def trial(home, crates):
+    """Tries the edits of a folder and prints a line for each: how many cases passed and failed."""
     lost = [name for name in sorted(os.listdir(home)) if name not in crates and edits_in(os.path.join(home, name))]
     edits = {name: edits_in(os.path.join(home, name)) for name in crates if edits_in(os.path.join(home, name))}
     shutil.rmtree(WORK, ignore_errors=True)
@@ -190,8 +231,7 @@ def main():
     status, said, _ = rt(TOP, 'check', *below) if below else (0, '', 0)
     if lost or status != 0:
         print(f'crates.txt does not list {lost[0]}, which has edits' if lost else f'the crates below are not proved:\n{said[-3000:]}')
-        print('0 passed, 1 failed')
-        return 1
+        return 0, 1
     passed = failed = 0
     with concurrent.futures.ThreadPoolExecutor(int(os.environ.get('RT_JOBS') or min(4, os.cpu_count() or 1))) as pool:
         ready = {name: pool.submit(prepare, name, crates) for name in edits}
@@ -205,6 +245,21 @@ def main():
             passed, failed = passed + right, failed + (not right)
     for name in edits:
         shutil.rmtree(os.path.join(WORK, name, 'cache'), ignore_errors=True)
+    return passed, failed
+
+
+def main():
+    counting = sys.argv[1:] == ['--count']
+    home = os.path.abspath(sys.argv[1]) if len(sys.argv) > 1 and not counting else HERE
+    crates = listed()
+    passed = failed = 0
+    for name in crates if home == HERE else []:
+        lines, right, wrong = count(name)
+        passed, failed = passed + right, failed + wrong
+        for line in lines:
+            print(line, flush=True)
+    if not counting:
+        passed, failed = (a + b for a, b in zip((passed, failed), trial(home, crates)))
     print(f'{passed} passed, {failed} failed')
     return 0 if failed == 0 else 1
 

@@ -25,11 +25,13 @@ use Rattle.numbers.specs.Numbers.{numberAt, held, gotAt, andThen}
 use Rattle.heads.specs.Tables.{taskFrom, onTask, tasksFrom, twoAt, onTwo, pairsFrom, onTwoHeading, headingAt, onHeading, onPairs, patternsFrom}
 use Rattle.heads.specs.Heads.{openingOf, middleFrom, onOpening, onTasks, onMiddle, onPatterns, headFrom}
 use Rattle.reader.specs.Files.{slotsFrom, onSlots, onHead, readOf}
-use Rattle.judge.specs.Rules.{high, twin, mated, clashes, strays, strayed, miscounts, miscounted, against, bars, broken, breaks, brokenPair, brokenPattern}
+use Rattle.slots.specs.High.{high}
+use Rattle.judge.specs.Rules.{twin, mated, clashes, strays, strayed, miscounts, miscounted, against, bars, broken, breaks, brokenPair, brokenPattern}
 use Rattle.judge.specs.Judgement.{highAt, twiceAt, outsideAt, wrongAt, brokenAt, planRules, rules, verdictOf}
-use Rattle.screen.specs.Network.{pairLinks, patternLinks, cycleLinks, linkStarts, linkEnds, network}
-use Rattle.screen.specs.Times.{ownRelease, ownDue, ownRunning, releaseWeight, adjustedRelease, adjustedDeadline}
-use Rattle.screen.specs.Findings.{onCycle, load, room, tight, screenRules, findingOf}
+use Rattle.network.specs.Network.{pairLinks, patternLinks, cycleLinks, linkStarts, linkEnds, network}
+use Rattle.network.specs.Times.{ownRelease, ownDue, ownRunning, releaseWeight, adjustedRelease, adjustedDeadline}
+use Rattle.network.specs.Causes.{onCycle, load, room, tight}
+use Rattle.screen.specs.Findings.{screenRules, findingOf}
 use Rattle.dispatcher.specs.Steps.{releases, heard, doneAt, doneOf, asleep, byteOf, rowOf, standsAt, inRow, ranOf, afterOf, stepOf}
 use Rattle.dispatcher.specs.Runs.{stateAt, shownAt}
 use Rattle.cases.specs.Questions.{Question, Reply, is, refusedBy, says, times, rows, reply, numberReply, taskNumbers, headingNumbers, pairNumbers, setOf, silence, reportAfter}

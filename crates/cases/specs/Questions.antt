@@ -18,7 +18,7 @@ use Rattle.reader.specs.Answers as readerAnswers
 use Rattle.judge.specs.Judgement.{verdictOf}
 use Rattle.judge.specs.Answers as judgeAnswers
 use Rattle.screen.specs.Findings.{findingOf}
-use Rattle.screen.specs.Times.{adjustedDeadline}
+use Rattle.network.specs.Times.{adjustedDeadline}
 use Rattle.screen.specs.Answers as screenAnswers
 use Rattle.dispatcher.specs.Runs.{playOf, shownAt}
 

@@ -2,18 +2,18 @@
 use mathlib.Core.Path.{_≡_, refl, sym, ap, _∙_}
 use mathlib.Core.Bool.{Bool, true, false, _&&_, _||_, not}
 use mathlib.Core.List.{List, []}
-use mathlib.Core.Logic.{_⊎_, inl, inr, ⊎-elim}
+use mathlib.Core.Logic.{_⊎_, inl, inr}
 use Prim.Native.Nat.{ℕ, _+_, _-_, _*_, _<_, _≤_}
 use native.Mathlib.Nat.{mul-le-mul, mul-comm, le-refl, le-of-dvd, lt-of-lt-of-le}
 use native.Mathlib.Omega.{arith}
 use lib.Dec.{eqb, ltb, leb}
 use lib.ListN.{getD, length, take, drop, length-take, length-drop}
 use lib.Seq.{getD-take, getD-drop}
-use borrow.Author.Tests.{le-leb, lt-leb, leb-false, eq-eqb, ne-eqb, eqb-true, eqb-false}
+use borrow.Author.Tests.{le-leb, lt-leb, leb-false, eq-eqb, ne-eqb, eqb-true}
 use Rattle.vocabulary.specs.Test.{pick, both}
 use Rattle.vocabulary.specs.Least.{least, least-is, least-same, some-same}
 use Rattle.vocabulary.specs.First.{firstOf, from}
-use Rattle.vocabulary.specs.Table.{table, length-table, getD-table, is-table}
+use Rattle.vocabulary.specs.Table.{table, getD-table, is-table}
 use Rattle.kinds.specs.Tasks.{Set, tasksOf, view}
 use Rattle.kinds.specs.Cycle.{cycle}
 use Rattle.kinds.specs.Sound.{sound}
@@ -21,13 +21,11 @@ use Rattle.kinds.proofs.SoundFacts.{Sound, sound-facts}
 use Rattle.kinds.specs.SoundByTests.{CountsFound}
 use Rattle.reader.specs.declared.Taking.{Taking}
 use Rattle.kinds.specs.declared.Counts.{Counts}
-use Rattle.heads.specs.Tables.{PatternTables}
-use Rattle.heads.specs.Heads.{headRead, setOf}
-use Rattle.reader.specs.Files.{notTaken, takenOf}
-use Rattle.heads.specs.declared.Head.{Head}
-use Rattle.heads.specs.declared.Head.the-variants as head
-use Rattle.heads.proofs.HeadLaws.{headOf}
-use Rattle.reader.proofs.ReadLaws.{WholeHead, whole-head, left-over, taken-sound}
+use Rattle.heads.specs.Tables.{PatternTables, noPatternTables}
+use Rattle.heads.specs.Heads.{setOf}
+use Rattle.reader.specs.Files.{takenOf, wholeRead, wholeFrom}
+use Rattle.reader.proofs.ReadLaws.{taken-sound}
+use Rattle.reader.proofs.WholeLaws.{whole-none, whole-some, whole-found}
 use Rattle.judge.specs.declared.Verdict.{Verdict}
 use Rattle.judge.specs.declared.Verdict.the-variants as verdict
 use Rattle.judge.specs.Judgement.{rules, verdictOf}
@@ -39,12 +37,12 @@ use Rattle.dispatcher.specs.declared.Answer.the-variants as answer
 use Rattle.dispatcher.specs.declared.Stepped.{Stepped}
 use Rattle.dispatcher.specs.declared.Look.{Look}
 use Rattle.dispatcher.specs.Answers.{numberOf}
-use Rattle.dispatcher.specs.Steps.{OneTick, releases, doneAt, doneOf, asleep, byteOf, rowOf, ranOf, afterOf, stepOf}
+use Rattle.dispatcher.specs.Steps.{OneTick, doneOf, byteOf, rowOf, ranOf, afterOf, stepOf}
 use Rattle.dispatcher.specs.Refusals.{firstState, onVerdict, startedOf, impossible, overreports, highSlot, isHigh, highPlace, stepRules, answerBy, ifShown, isShown, rowAt, tickOf, lengthsFit, answerOf, stepped, steppedOf, leftOf}
 use Rattle.dispatcher.specs.Outcome.{StepOutcome, writtenOf, written-is}
 use Rattle.dispatcher.specs.Bytes.{bytesOf, stateOf, unclear}
 use Rattle.dispatcher.specs.ForC.{startLeaves, startRules, startVerdict, firstBytes, startFor, stepLeaves, lengthsForC, impossibleForC, tickIn, answerIn, stepFor}
-use Rattle.dispatcher.proofs.StepFacts.{NoneBroken, shown-kept, lengths-right, when-shown, when-refused, shown-or-not}
+use Rattle.dispatcher.proofs.StepFacts.{shown-kept, lengths-right, when-shown, when-refused, shown-or-not}
 use Rattle.dispatcher.specs.Looks.{eight, look, lookBy, lookFrom, lookOf, lookIn, lookFor, shownIn, steppedBy, leftBy, writtenBy, partOf, tickOn, tickFor, Steppable, lookInBytes}
 use Rattle.dispatcher.proofs.RowLaws.{table-same, length-row}
 
@@ -356,40 +354,21 @@ unfolding lookOf
 set-10 s slots state report room e = look-10 (sound s) _ _ (tickOf s slots state report) e
 
 -- ---- the head
-head-found : (tasks t : List ℕ) (v : PatternTables) {f : Counts} → WholeHead tasks f t v → CountsFound (view (setOf f t v)) f
-head-found tasks t v w =
-    record {
-      is-sound = w .is-sound;
-      edition = refl;
-      processors = refl;
-      tasks = refl;
-      patterns = refl;
-      ticks = w .ticks;
-      jobs = w .jobs;
-    }
+module _ (tasks t : List ℕ) (v : PatternTables) {f : Counts} (read : wholeRead f t v ≡ wholeFrom tasks noPatternTables) where
+  pub head-timed : (f .ticks ≡ 0 → ⊥) → Steppable f t
+  head-timed z = timed-of (view (setOf f t v)) (whole-found tasks t v read z)
 
-pub head-timed : (tasks t : List ℕ) (v : PatternTables) {o : Head} {f : Counts} {at : ℕ} → headRead o t v ≡ headOf tasks → o ≡ head.Of f at
-    → at ≡ length tasks → Steppable f t
-head-timed tasks t v {f = f} read here e = timed-of (view (setOf f t v)) (head-found tasks t v (whole-head tasks t v read here e))
-
-module _ (tasks slots : List ℕ) (report : ℕ) (b : List ℕ) (room : ℕ) where
-  pub no-head : takenOf tasks ≡ notTaken → look answer.BadSet firstState [] ≡ lookFor tasks slots report b room
-  unfolding lookFor lookIn
-  no-head e = look-10 (takenOf tasks .fits) _ _ (tickIn (takenOf tasks) slots report b) (ap (λ (x : Taking). x .fits) e)
-
-  module _ (t : List ℕ) (v : PatternTables) {o : Head} {f : Counts} {at : ℕ} (read : headRead o t v ≡ headOf tasks) (here : o ≡ head.Of f at) where
-    whole : at ≡ length tasks → WholeHead tasks f t v
-    whole e = whole-head tasks t v read here e
-
-    pub head-look : {l : Look} → at ≡ length tasks → l ≡ lookInBytes f t slots report b room → l ≡ lookFor tasks slots report b room
+  module _ (slots : List ℕ) (report : ℕ) (b : List ℕ) (room : ℕ) where
+    pub no-head : f .ticks ≡ 0 → look answer.BadSet firstState [] ≡ lookFor tasks slots report b room
     unfolding lookFor lookIn
-    head-look e g =
-        let w = whole e in
-        bytes-look (view (setOf f t v)) (head-found tasks t v w) slots report b room g
-        ∙ ap (λ (x : Taking). lookIn x slots report b room) (sym (w .taken))
+    no-head z =
+        look-10 (takenOf tasks .fits) _ _ (tickIn (takenOf tasks) slots report b) (ap (λ (x : Taking). x .fits) (whole-none tasks t v read z))
 
-    pub head-over : (at ≡ length tasks → ⊥) → look answer.BadSet firstState [] ≡ lookFor tasks slots report b room
-    head-over n = no-head (left-over tasks t v read here n)
+    pub head-look : {l : Look} → (f .ticks ≡ 0 → ⊥) → l ≡ lookInBytes f t slots report b room → l ≡ lookFor tasks slots report b room
+    unfolding lookFor lookIn
+    head-look z g =
+        bytes-look (view (setOf f t v)) (whole-found tasks t v read z) slots report b room g
+        ∙ ap (λ (x : Taking). lookIn x slots report b room) (sym (whole-some tasks t v read z .taken))
 
 -- ---- what is written by a look
 -- a row that fits eight bytes comes out of them again

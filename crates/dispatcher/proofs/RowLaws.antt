@@ -1,25 +1,25 @@
 -- A step over a row from its parts.
-use mathlib.Core.Path.{_≡_, refl, sym, ap, _∙_, fun-ext}
+use mathlib.Core.Path.{_≡_, sym, ap, _∙_, fun-ext}
 use mathlib.Core.Bool.{Bool, true, false, _&&_, _||_, not}
 use mathlib.Core.List.{List, []}
 use mathlib.Core.Logic.{_⊎_, inl, inr}
-use Prim.Native.Nat.{ℕ, _+_, _-_, _*_, _^_, _<_, _≤_}
+use Prim.Native.Nat.{ℕ, _+_, _-_, _^_, _<_, _≤_}
 use native.Mathlib.Nat.{lt-of-lt-of-le}
 use native.Mathlib.Omega.{arith}
 use lib.Bits.{bitAnd, bitOr}
-use lib.Dec.{eqb, ltb, leb}
+use lib.Dec.{eqb, leb}
 use lib.ListN.{getD, length, List·getD-eq-default}
 use lib.Pow.{pow-mono}
-use borrow.Author.Tests.{lt-ltb, le-ltb, lt-leb, ltb-false, eqb-true, eq-eqb}
+use borrow.Author.Tests.{lt-leb, ltb-false, eqb-true}
 use Rattle.vocabulary.specs.Test.{pick, lt-or-le, same-test}
-use Rattle.vocabulary.specs.Least.{least, least-same, some, some-same, some-yes, some-at, some-lt, some-ge, some-not}
+use Rattle.vocabulary.specs.Least.{least, some, some-same, some-yes, some-at, some-lt, some-ge, some-not}
 use Rattle.vocabulary.specs.Bits.{has, pack}
 use Rattle.vocabulary.specs.Words.{heard-word}
 use Rattle.vocabulary.specs.Table.{table, length-table, getD-table, is-table}
 use Rattle.vocabulary.specs.First.{firstOf, from}
 use Rattle.kinds.specs.Tasks.{Tasks, tasksOf}
-use Rattle.judge.specs.Rules.{high}
 use Rattle.kinds.specs.declared.Counts.{Counts}
+use Rattle.slots.specs.High.{high}
 use Rattle.dispatcher.specs.declared.State.{State}
 use Rattle.dispatcher.specs.declared.Answer.the-variants as answer
 use Rattle.dispatcher.specs.declared.Look.{Look}
@@ -30,14 +30,6 @@ use Rattle.dispatcher.specs.Looks.{eight, look, lookBy, lookFrom, tickOn
 -- ---- leaves
 pub over-none : (x n : ℕ) → x < 2 ^ 64 → 64 ≤ n → false ≡ leb (2 ^ n) x
 over-none x n l h = sym (lt-leb (2 ^ n) x (lt-of-lt-of-le l (pow-mono h)))
-
-pub high-yes : (n : ℕ) (row : List ℕ) (q : ℕ) {x : ℕ} → x ≡ getD row q 0 → n < x → highSlot n (λ k. getD row k 0) q ≡ true
-unfolding highSlot
-high-yes n row q e l = lt-ltb n (getD row q 0) (rw e at l)
-
-pub high-no : (n : ℕ) (row : List ℕ) (q : ℕ) {x : ℕ} → x ≡ getD row q 0 → x ≤ n → highSlot n (λ k. getD row k 0) q ≡ false
-unfolding highSlot
-high-no n row q e l = le-ltb n (getD row q 0) (rw e at l)
 
 -- ---- eight bytes
 pub table-same : (f g : ℕ → ℕ) (n : ℕ) → ((i : ℕ) → i < n → f i ≡ g i) → table f n ≡ table g n

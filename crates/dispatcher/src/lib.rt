@@ -5,9 +5,7 @@ use crate::marks::kept_marks;
 use crate::marks::ran_in;
 use crate::marks::show_row;
 use crate::marks::shown_row;
-use heads::Head;
 use judge::Verdict;
-use judge::high::first_high;
 use kinds::Attributes;
 use kinds::Counts;
 use kinds::TaskSet;
@@ -162,7 +160,7 @@ impl State {
         ensures { λ r. ⌜ r ≡ lookFrom 12 true true false (tickOn f (now (attributes .entry)) (λ q. getD (now (row .entry)) q 0) 0 self report) ⌝ }
     {
         let n = f.tasks;
-        let q = first_high(row, n);
+        let q = slots::first_high(row, n);
         if q < row.len() {
             return refused(Answer::BadSlot(q));
         }
@@ -325,15 +323,11 @@ pub fn look_head(tasks: &[u8], plan: &[u8], report: u64, state: &[u8], room: usi
     let mut attributes = [0u32; 256];
     let mut headings = [0u32; 192];
     let mut pairs = [0u16; 2048];
-    match heads::read_head(tasks, &mut attributes, &mut headings, &mut pairs) {
-        Head::Refused(_) => refused(Answer::BadSet),
-        Head::Of(f, at) => {
-            if at == tasks.len() {
-                return look_bytes(f, &attributes, plan, report, state, room);
-            }
-            refused(Answer::BadSet)
-        }
+    let f = reader::read_whole(tasks, &mut attributes, &mut headings, &mut pairs);
+    if f.ticks == 0 {
+        return refused(Answer::BadSet);
     }
+    look_bytes(f, &attributes, plan, report, state, room)
 }
 
 // The step for C, from and to the 21 bytes of the state; a refusal leaves them and the output.

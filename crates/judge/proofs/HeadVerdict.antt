@@ -1,45 +1,23 @@
--- The verdict on a head by its ways out: no head, bytes left over, and the tables of one that is whole.
-use mathlib.Core.Path.{_≡_, refl, sym, ap}
+-- The verdict on a head by its ways out: bytes that are no head, or more than one, and the tables of one that is whole.
+use mathlib.Core.Path.{_≡_, sym, ap}
 use mathlib.Core.List.{List}
 use Prim.Native.Nat.{ℕ}
-use lib.ListN.{length}
 use Rattle.kinds.specs.declared.Counts.{Counts}
 use Rattle.kinds.specs.Tasks.{view}
-use Rattle.kinds.specs.SoundByTests.{CountsFound}
+use Rattle.heads.specs.Tables.{PatternTables, noPatternTables}
+use Rattle.heads.specs.Heads.{setOf}
 use Rattle.reader.specs.declared.Taking.{Taking}
-use Rattle.heads.specs.declared.Head.{Head}
-use Rattle.heads.specs.declared.Head.the-variants as head
-use Rattle.heads.specs.Tables.{PatternTables}
-use Rattle.heads.specs.Heads.{headRead, setOf}
-use Rattle.reader.specs.Files.{notTaken, takenOf}
-use Rattle.heads.proofs.HeadLaws.{headOf}
-use Rattle.reader.proofs.ReadLaws.{whole-head, left-over}
+use Rattle.reader.specs.Files.{wholeRead, wholeFrom}
+use Rattle.reader.proofs.WholeLaws.{whole-none, whole-some}
 use Rattle.judge.specs.declared.Verdict.the-variants as verdict
 use Rattle.judge.specs.Judgement.{verdictOf}
 use Rattle.judge.specs.Heads.{onTaking, judgedOf}
 
-pub no-head : (tasks slots : List ℕ) → takenOf tasks ≡ notTaken → verdict.BadSet ≡ judgedOf tasks slots
-unfolding judgedOf
-no-head tasks slots e = rw e
+module _ (tasks t : List ℕ) (v : PatternTables) (slots : List ℕ) {f : Counts} (read : wholeRead f t v ≡ wholeFrom tasks noPatternTables) where
+  pub no-head : f .ticks ≡ 0 → verdict.BadSet ≡ judgedOf tasks slots
+  unfolding judgedOf
+  no-head z = ap (λ (x : Taking). onTaking x slots) (sym (whole-none tasks t v read z))
 
-module _ (tasks : List ℕ) (t : List ℕ) (v : PatternTables) {o : Head} {f : Counts} {at : ℕ} (read : headRead o t v ≡ headOf tasks) (here : o ≡ head.Of f at) where
-  pub head-more : (slots : List ℕ) → (at ≡ length tasks → ⊥) → verdict.BadSet ≡ judgedOf tasks slots
-  head-more slots n = no-head tasks slots (left-over tasks t v read here n)
-
-  module _ (e : at ≡ length tasks) where
-    pub head-found : CountsFound (view (setOf f t v)) f
-    head-found =
-        let w = whole-head tasks t v read here e in
-        record {
-          is-sound = w .is-sound;
-          edition = refl;
-          processors = refl;
-          tasks = refl;
-          patterns = refl;
-          ticks = w .ticks;
-          jobs = w .jobs;
-        }
-
-    pub head-judged : (slots : List ℕ) → verdictOf (view (setOf f t v)) slots ≡ judgedOf tasks slots
-    unfolding judgedOf
-    head-judged slots = ap (λ (x : Taking). onTaking x slots) (sym (whole-head tasks t v read here e .taken))
+  pub head-judged : (f .ticks ≡ 0 → ⊥) → verdictOf (view (setOf f t v)) slots ≡ judgedOf tasks slots
+  unfolding judgedOf
+  head-judged z = ap (λ (x : Taking). onTaking x slots) (sym (whole-some tasks t v read z .taken))

@@ -6,7 +6,6 @@ pub mod LinkTableLaws
 pub mod EachJobGets
 pub mod Visit
 pub mod RowLaws
-pub mod HighLaws
 pub mod SweepLaws
 pub mod VerdictChain
 pub mod HeadVerdict

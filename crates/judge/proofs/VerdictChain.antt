@@ -20,14 +20,15 @@ use Rattle.kinds.proofs.SoundFacts.{Sound, sound-facts}
 use Rattle.kinds.specs.SoundByTests.{CountsFound}
 use Rattle.judge.specs.declared.Verdict.{Verdict}
 use Rattle.judge.specs.declared.Verdict.the-variants as verdict
-use Rattle.judge.specs.Rules.{high, twin, mated, clashes, strays, strayed, miscounted}
+use Rattle.slots.specs.High.{high}
+use Rattle.slots.proofs.HighLaws.{all-low}
+use Rattle.judge.specs.Rules.{twin, mated, clashes, strays, strayed, miscounted}
 use Rattle.judge.specs.Judgement.{highAt, twiceAt, outsideAt, planRules, verdictFrom, rules, verdictOf}
 use Rattle.judge.specs.JobOfSlot.{Fit, FirstJobs, outside}
 use Rattle.judge.proofs.Visit.{few-slots}
 use Rattle.judge.specs.RowMarks.{Worded}
 use Rattle.judge.specs.Sweep.{FirstOutside, Halted, Swept}
 use Rattle.judge.proofs.SweepLaws.{out-found}
-use Rattle.judge.proofs.HighLaws.{all-low}
 use Rattle.judge.specs.TableNeeds.{PlanNeeds, Tallied, Counted, AllRan, LinkNeeds}
 use Rattle.judge.proofs.NeedLaws.{fit-needs}
 use Rattle.judge.proofs.CountLaws.{all-counted}

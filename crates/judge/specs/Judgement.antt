@@ -11,9 +11,10 @@ use Rattle.kinds.specs.Cycle.{cycle, jobsOf}
 use Rattle.kinds.specs.Links.{repeats}
 use Rattle.kinds.specs.Plans.{Plan, planOf, ticks}
 use Rattle.kinds.specs.Sound.{sound}
+use Rattle.slots.specs.High.{high}
 use Rattle.judge.specs.declared.Verdict.{Verdict}
 use Rattle.judge.specs.declared.Verdict.the-variants as verdict
-use Rattle.judge.specs.Rules.{high, twin, mated, clashes, strays, strayed, miscounts, miscounted, breaks, brokenPair, brokenPattern}
+use Rattle.judge.specs.Rules.{twin, mated, clashes, strays, strayed, miscounts, miscounted, breaks, brokenPair, brokenPattern}
 
 -- "Lowest means by task, then job; by tick, then processors; by pattern, pair, k."
 unfoldable pub highAt : Tasks → Plan → Verdict

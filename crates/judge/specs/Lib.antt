@@ -5,7 +5,6 @@ pub mod Heads
 pub mod JobTicks
 pub mod JobOfSlot
 pub mod RowMarks
-pub mod HighSlots
 pub mod Sweep
 pub mod TableNeeds
 pub mod Lent

@@ -1,9 +1,7 @@
 -- The judge's rules, each a test of one slot, one row, one job or one link.
 use mathlib.Core.Bool.{Bool, _&&_, not}
-use mathlib.Core.List.{List}
 use Prim.Native.Nat.{ℕ, _+_, _-_, _%_}
 use lib.Dec.{eqb, leb, ltb}
-use lib.ListN.{getD}
 use Rattle.vocabulary.specs.Least.{some}
 use Rattle.kinds.specs.Tasks.{Tasks, period, running, offset}
 use Rattle.kinds.specs.Tasks.{Patterns, deadline, fromTask, toTask, pairCount}
@@ -12,9 +10,7 @@ use Rattle.kinds.specs.Jobs.{release}
 use Rattle.kinds.specs.Links.{linkFrom, linkTo, repeats}
 use Rattle.kinds.specs.Plans.{Plan, slot, runs, ticks}
 
--- ---- 12: "a slot of a lent plan is above the task count"
-unfoldable pub high : List ℕ → ℕ → ℕ → Bool
-high slots n e = ltb n (getD slots e 0)
+-- ---- 12: "a slot of a lent plan is above the task count": slots `High.high`, since a step tests it too
 
 -- ---- 20: "a task twice in one tick": processors q < r show the same task at tick t. It is about slots, also where a task still sleeps
 unfoldable pub twin : Plan → ℕ → ℕ → ℕ → Bool

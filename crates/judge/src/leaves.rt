@@ -1,13 +1,7 @@
-// Leaves that know nothing of plans: a slot's value as a number, and marks in a word.
+// Leaves that know nothing of plans: marks in a word.
 ghost use mathlib.Core.Path.{_≡_};
 ghost use Prim.Native.Nat.{_≤_};
 ghost use Rattle.judge.specs.RowMarks.{marked, Added};
-
-pub(crate) fn slot_value(x: u8) -> usize
-    ensures { λ r. ⌜ r ≡ x ⌝ }
-{
-    x as usize
-}
 
 // Slot value v is marked in x.
 pub(crate) fn has_slot(x: u64, v: u8) -> bool

@@ -15,7 +15,6 @@ ghost use Rattle.judge.specs.RowMarks.{Worded};
 ghost use Rattle.judge.specs.Sweep.{Halted};
 ghost use Rattle.judge.specs.TableNeeds.{PlanNeeds};
 ghost use Rattle.judge.specs.Lent.{lentTasks, lentPatterns, lentSet, lentPlan, misplacedVerdict};
-use heads::Head;
 use kinds::Attributes;
 use kinds::Counts;
 use kinds::Headings;
@@ -26,7 +25,6 @@ use kinds::TaskSet;
 mod bases;
 mod counts;
 mod gets;
-pub mod high;
 mod leaves;
 mod links;
 mod twice;
@@ -146,7 +144,7 @@ fn judge_tables<'a>(
     if slots.len() != f.processors as usize * f.ticks as usize {
         return Verdict::WrongLength;
     }
-    let e = high::first_high(slots, f.tasks);
+    let e = slots::first_high(slots, f.tasks);
     if e < slots.len() {
         return Verdict::BadSlot(e);
     }
@@ -171,15 +169,11 @@ pub fn judge_head(tasks: &[u8], plan: &[u8]) -> Verdict
     let mut attributes = [0u32; 256];
     let mut headings = [0u32; 192];
     let mut pairs = [0u16; 2048];
-    match heads::read_head(tasks, &mut attributes, &mut headings, &mut pairs) {
-        Head::Refused(_) => Verdict::BadSet,
-        Head::Of(f, at) => {
-            if at != tasks.len() {
-                return Verdict::BadSet;
-            }
-            judge_tables(f, &attributes, &headings, &pairs, plan)
-        }
+    let f = reader::read_whole(tasks, &mut attributes, &mut headings, &mut pairs);
+    if f.ticks == 0 {
+        return Verdict::BadSet;
     }
+    judge_tables(f, &attributes, &headings, &pairs, plan)
 }
 
 // The number of document 01 for a verdict: 0, 10, 11, 12, or 20 to 23.

@@ -10,7 +10,6 @@ ghost use Rattle.judge.specs.Sweep.{Swept};
 ghost use Rattle.judge.specs.Lent.{lentTasks, lentPlan};
 use crate::leaves::has_slot;
 use crate::leaves::mark;
-use crate::leaves::slot_value;
 use kinds::Attributes;
 use kinds::Counts;
 use kinds::Task;
@@ -87,7 +86,7 @@ fn visit(
         × (e < f .ticks * f .processors) × (c ≡ e / f .processors) × Walked (lentTasks f (now attributes)) (lentPlan f (now slots)) e (now rows) ⌝ }
     ensures { λ r. ⌜ Visited (lentTasks f (now (attributes .entry))) (lentPlan f (now (slots .entry))) e r (now (rows .exit)) ⌝ }
 {
-    let v = slot_value(slots[e]);
+    let v = slots[e] as usize;
     if v == 0 {
         return false;
     }

@@ -153,6 +153,20 @@ taken-sound s e = by (headOf s .outcome) refl e
     by (head.Of f at) a e = length-by f at a (eqb at (length s)) e
     by (head.Refused r) a e = clash e refl
 
+-- bytes that are not taken give the empty set
+pub not-taken : (s : List ℕ) → takenOf s .fits ≡ false → takenOf s ≡ notTaken
+unfolding takenOf takeHead
+not-taken s e = by (headOf s .outcome) e
+  where
+    length-by : (f : Counts) (b : Bool) → pick b (taking (setIn (headOf s) f)) notTaken .fits ≡ false
+        → pick b (taking (setIn (headOf s) f)) notTaken ≡ notTaken
+    length-by f true e = clash refl e
+    length-by f false e = refl
+
+    by : (o : Head) → takeHead s o (headOf s .tasks) (headOf s .patterns) .fits ≡ false → takeHead s o (headOf s .tasks) (headOf s .patterns) ≡ notTaken
+    by (head.Of f at) e = length-by f (eqb at (length s)) e
+    by (head.Refused r) e = refl
+
 pub taken-blank : (s : List ℕ) → Blank (takenOf s .set)
 unfolding takenOf takeHead
 taken-blank s = by (headOf s .outcome) refl

@@ -3,6 +3,7 @@ use mathlib.Core.Path.{_≡_, refl, _∙_}
 use mathlib.Core.List.{List}
 use Prim.Native.Nat.{ℕ, suc, _+_, _-_, _*_, _<_, _≤_}
 use native.Mathlib.Omega.{arith}
+use borrow.Author.Tests.{eq-eqb, ne-eqb}
 use lib.Dec.{leb, ltb}
 use lib.ListN.{length, getD}
 use Rattle.vocabulary.specs.Test.{pick}
@@ -18,7 +19,7 @@ use Rattle.reader.specs.declared.Taking.{Taking}
 use Rattle.heads.specs.declared.Head.{Head}
 use Rattle.heads.specs.declared.Head.the-variants as head
 use Rattle.heads.specs.Heads.{headRead, headFrom, setOf}
-use Rattle.reader.specs.Files.{slotsFrom, loaded, refused, onSlots, closedOf, onHead, readOf, notTaken, wholeOf, takeHead, takenOf, onEnd, endedOf}
+use Rattle.reader.specs.Files.{slotsFrom, loaded, refused, onSlots, closedOf, onHead, readOf, notTaken, wholeOf, takeHead, takenOf, onEnd, endedOf, noCounts, wholeRead, wholeCounts, wholeFrom}
 
 -- what is left of a count, one turn earlier, and at the end
 left : (n i : ℕ) → i < n → n - i ≡ suc (n - (i + 1))
@@ -68,6 +69,20 @@ pub taken-closed : (s : List ℕ) (t : List ℕ) (v : PatternTables) {o : Head} 
     → headRead o t v ≡ headFrom s noAttributes noPatternTables → o ≡ head.Of f at → u ≡ setOf f t v → x ≡ wholeOf at (length s) u → x ≡ takenOf s
 unfolding takenOf takeHead
 taken-closed s t v a b g q = q ∙ rw (g, ← a, b)
+
+-- ---- the head alone, in lent tables: it is refused; it ends where the bytes do; it does not
+module _ (s t : List ℕ) (u v : PatternTables) {o : Head} (read : headRead o t v ≡ headFrom s noAttributes u) where
+  pub whole-refused : {r : Refusal} {f : Counts} → o ≡ head.Refused r → f ≡ noCounts → wholeRead f t v ≡ wholeFrom s u
+  unfolding wholeFrom wholeCounts
+  whole-refused e z = rw (← read, e, z)
+
+  pub whole-ended : {f : Counts} {at : ℕ} → o ≡ head.Of f at → at ≡ length s → wholeRead f t v ≡ wholeFrom s u
+  unfolding wholeFrom wholeCounts
+  whole-ended {at = at} e l = rw (← read, e, eq-eqb at (length s) l)
+
+  pub whole-more : {f g : Counts} {at : ℕ} → o ≡ head.Of f at → (at ≡ length s → ⊥) → g ≡ noCounts → wholeRead g t v ≡ wholeFrom s u
+  unfolding wholeFrom wholeCounts
+  whole-more {at = at} e l z = rw (← read, e, ne-eqb at (length s) l, z)
 
 -- ---- the answer alone
 pub ended-stopped : (s : List ℕ) (at : ℕ) (f : Counts) {k : ℕ} {q : Outcome} {r : Refusal}

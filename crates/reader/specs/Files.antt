@@ -73,3 +73,23 @@ takeHead s (head.Refused r) t v = notTaken
 
 unfoldable pub takenOf : List ℕ → Taking
 takenOf s = let r : HeadRead = headFrom s noAttributes noPatternTables in takeHead s (r .outcome) (r .tasks) (r .patterns)
+
+-- ---- the head alone, for a caller that lends tables: the numbers of a head that ends where the bytes do, else zeros; a head has at least one tick
+pub record WholeRead : Type 0 where
+  pub counts : Counts
+  pub tasks : List ℕ
+  pub patterns : PatternTables
+
+abbrev pub wholeRead : Counts → List ℕ → PatternTables → WholeRead
+wholeRead f t v = record { counts = f; tasks = t; patterns = v }
+
+abbrev pub noCounts : Counts
+noCounts = record { edition = 0; processors = 0; tasks = 0; patterns = 0; ticks = 0; jobs = 0 }
+
+unfoldable pub wholeCounts : Head → ℕ → Counts
+wholeCounts (head.Of f at) len = pick (eqb at len) f noCounts
+wholeCounts (head.Refused r) len = noCounts
+
+-- the tables are as the head leaves them, whole or not
+unfoldable pub wholeFrom : List ℕ → PatternTables → WholeRead
+wholeFrom s v = let r : HeadRead = headFrom s noAttributes v in wholeRead (wholeCounts (r .outcome) (length s)) (r .tasks) (r .patterns)

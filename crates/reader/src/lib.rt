@@ -6,7 +6,7 @@ ghost use lib.ListN.{length, getD};
 ghost use Rattle.reader.specs.Answers.{refusalNumber, refusalEvidence, numberOf, evidenceOf};
 ghost use Rattle.heads.specs.Tables.{patternTables};
 ghost use Rattle.heads.specs.Heads.{setOf};
-ghost use Rattle.reader.specs.Files.{endedOf, closedOf, wholeOf, slotsFrom, refused, readOf, notTaken, takenOf};
+ghost use Rattle.reader.specs.Files.{endedOf, closedOf, wholeOf, slotsFrom, refused, readOf, notTaken, takenOf, noCounts, wholeRead, wholeFrom};
 use heads::Head;
 use heads::Outcome;
 use kinds::Attributes;
@@ -166,6 +166,41 @@ pub fn take_head(bytes: &[u8]) -> Taking
         Head::Of(f, at) => {
             let set = set_of(f, attributes, headings, pairs);
             take_whole(at, bytes.len(), set)
+        }
+    }
+}
+
+// The numbers of bytes that are no head, or more than one.
+fn no_counts() -> Counts
+    ensures { λ r. ⌜ r ≡ noCounts ⌝ }
+{
+    Counts {
+        edition: 0,
+        processors: 0,
+        tasks: 0,
+        patterns: 0,
+        ticks: 0,
+        jobs: 0,
+    }
+}
+
+// The numbers of bytes that are a head and nothing more, with its entries in the tables that are lent; zeros for any other bytes. It copies no set.
+pub fn read_whole(
+    bytes: &[u8],
+    attributes: &mut Attributes,
+    headings: &mut Headings,
+    pairs: &mut Pairs,
+) -> Counts
+    ensures { λ r. ⌜ wholeRead r (now (attributes .exit)) (patternTables (now (headings .exit)) (now (pairs .exit)))
+        ≡ wholeFrom (now (bytes .entry)) (patternTables (now (headings .entry)) (now (pairs .entry))) ⌝ }
+{
+    match heads::read_head(bytes, attributes, headings, pairs) {
+        Head::Refused(_) => no_counts(),
+        Head::Of(f, at) => {
+            if at == bytes.len() {
+                return f;
+            }
+            no_counts()
         }
     }
 }

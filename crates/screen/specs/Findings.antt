@@ -1,19 +1,14 @@
 -- What the screen and the call for adjusted times answer, for every input.
-use mathlib.Core.Bool.{Bool, _||_, not}
+use mathlib.Core.Bool.{_||_, not}
 use mathlib.Core.List.{List, [], _∷_}
-use Prim.Native.Nat.{ℕ, _+_, _*_}
+use Prim.Native.Nat.{ℕ}
 use lib.Dec.{eqb, ltb}
-use lib.IntN.{ℤ, pos}
-use lib.Signed.{ltZ}
+use lib.IntN.{ℤ}
 use lib.ListN.{length}
 use Rattle.vocabulary.specs.Test.{pick}
-use Rattle.vocabulary.specs.Least.{least}
 use Rattle.vocabulary.specs.First.{Rule, rule, firstOf}
-use Rattle.vocabulary.specs.Total.{total}
-use Rattle.vocabulary.specs.Table.{table}
-use Rattle.graph.specs.Graph.{loops}
-use Rattle.kinds.specs.Tasks.{Tasks, Patterns, Set, running}
-use Rattle.kinds.specs.Cycle.{cycle, jobs, jobsOf}
+use Rattle.kinds.specs.Tasks.{Tasks, Set}
+use Rattle.kinds.specs.Cycle.{jobs}
 use Rattle.kinds.specs.Jobs.{taskOfJob, jobOfJob}
 use Rattle.kinds.specs.Sound.{sound}
 use Rattle.screen.specs.declared.Finding.{Finding}
@@ -21,30 +16,7 @@ use Rattle.screen.specs.declared.Finding.the-variants as finding
 use Rattle.screen.specs.declared.Adjusted.{Adjusted}
 use Rattle.screen.specs.declared.Adjusted.the-variants as adjusted
 use Rattle.screen.specs.Answers.{written}
-use Rattle.screen.specs.Network.{network}
-use Rattle.screen.specs.Times.{ownRunning, adjustedRelease, adjustedDeadline}
-
--- "13: links make a cycle": job x lies on one when a way of at least one link leads from it to itself
-unfoldable pub onCycle : Tasks → Patterns → ℕ → Bool
-onCycle u v x = loops (network u v) x
-
--- "14: sum of C·H/T is over m·H"
-unfoldable pub load : Tasks → ℕ
-load u = total (λ i. running u i * jobsOf u i) (u .count)
-
-unfoldable pub room : Set → ℕ
-room s = s .processors * cycle (s .tasks)
-
--- "15: a job's adjusted release + C is over its adjusted deadline"
-unfoldable pub tight : Tasks → Patterns → ℕ → Bool
-tight u v x = ltZ (adjustedDeadline u v x) (pos (adjustedRelease u v x + ownRunning u x))
-
--- "Lowest means by task, then job": the lowest job on a cycle, and the lowest tight one; as many as there are jobs where there is none
-abbrev pub lowestCycle : Set → ℕ
-lowestCycle s = least (onCycle (s .tasks) (s .patterns)) (jobs (s .tasks))
-
-abbrev pub lowestTight : Set → ℕ
-lowestTight s = least (tight (s .tasks) (s .patterns)) (jobs (s .tasks))
+use Rattle.network.specs.Causes.{load, room, lowestCycle, lowestTight, releasesOf, deadlinesOf}
 
 -- "Screen: 10, 13, 14, 15, else no finding."
 unfoldable pub screenRules : Set → List (Rule Finding)
@@ -73,13 +45,6 @@ adjustRules s p q =
 
 unfoldable pub adjustedOf : Set → ℕ → ℕ → Adjusted
 adjustedOf s p q = firstOf (adjustRules s p q) adjusted.Written
-
--- "Per job of one cycle, ordered by task, then job", "into two lent buffers of signed 32-bit numbers"
-abbrev pub releasesOf : Set → List ℤ
-releasesOf s = table (λ x. pos (adjustedRelease (s .tasks) (s .patterns) x)) (jobs (s .tasks))
-
-abbrev pub deadlinesOf : Set → List ℤ
-deadlinesOf s = table (adjustedDeadline (s .tasks) (s .patterns)) (jobs (s .tasks))
 
 -- what the two buffers hold afterwards; a refusal writes neither
 unfoldable pub releasesLeft : Set → List ℤ → List ℤ → List ℤ

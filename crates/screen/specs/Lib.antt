@@ -1,15 +1,4 @@
 pub mod Answers
-pub mod Network
-pub mod Times
 pub mod Findings
-pub mod NetworkLaws
-pub mod Order
-pub mod TimesLaws
-pub mod Tables
-pub mod Placed
-pub mod LinkLists
-pub mod JobTimes
-pub mod Named
 pub mod Written
-pub mod Outcome
 pub mod Heads

@@ -10,7 +10,7 @@ use lib.ListN.{getD, length}
 use borrow.Author.Tests.{le-leb, lt-ltb}
 use Rattle.vocabulary.specs.Test.{pick, fails}
 use Rattle.vocabulary.specs.Count.{count, count-mono}
-use Rattle.vocabulary.specs.Table.{table, getD-table}
+use Rattle.vocabulary.specs.Table.{getD-table}
 use Rattle.vocabulary.specs.Bits.{has}
 use Rattle.kinds.specs.Tasks.{Tasks, Patterns, Set, running, deadline, fromTask, toTask, pairCount}
 use Rattle.kinds.specs.Jobs.{release, due, inWindow}
@@ -26,7 +26,7 @@ use Rattle.dispatcher.specs.Refusals.{firstState, onVerdict, startedOf}
 use Rattle.dispatcher.specs.Runs.{Play, playOf, tickAt, stateAt, shownAt, gives, finishes}
 use Rattle.dispatcher.specs.Bytes.{bytesOf, stateOf, unclear}
 use Rattle.dispatcher.proofs.StateBytes.{clear-state, possible-round-trip}
-use Rattle.theorems.specs.Demand3Terms.{planned, Playable, ticksPlanned, ticksGiven, AllPlannedBefore, NotHeardBefore, TickPlanned, TickGiven, Right}
+use Rattle.theorems.specs.Demand3Terms.{planned, Playable, ticksPlanned, ticksGiven, AllPlannedBefore, NotHeardBefore, TickGiven, Right}
 use Rattle.theorems.specs.Demand3Terms.{Fits, LowReports, GoesOn, Rows, playCalls, takenCalls, Call, stepCalls, rightCalls, reportsOf, runOf}
 use Rattle.theorems.specs.OneTask.{givesAlone, gives-wanted, same-gives, after-end, whole-share}
 use Rattle.theorems.specs.OneTask.{releasedAt, toldAt, as-alone, ends-alone, is-released, not-released}

@@ -15,22 +15,22 @@ use Rattle.reader.specs.Files.{takenOf}
 use Rattle.judge.specs.declared.Verdict.{Verdict}
 use Rattle.judge.specs.declared.Verdict.the-variants as verdict
 use Rattle.judge.specs.Answers as judgeAnswers
-use Rattle.judge.specs.Judgement.{rules, verdictOf}
+use Rattle.judge.specs.Judgement.{verdictOf}
 use Rattle.dispatcher.specs.declared.State.{State}
 use Rattle.dispatcher.specs.declared.Answer.{Answer}
 use Rattle.dispatcher.specs.declared.Answer.the-variants as answer
 use Rattle.dispatcher.specs.declared.Stepped.{Stepped}
 use Rattle.dispatcher.specs.Steps.{OneTick, rowOf, stepOf}
-use Rattle.dispatcher.specs.Refusals.{firstState, onVerdict, impossible, lengthsFit, ifShown, isShown, tickOf, answerBy, stepped, steppedOf, leftOf}
+use Rattle.dispatcher.specs.Refusals.{firstState, onVerdict, impossible, lengthsFit, ifShown, isShown, tickOf, answerBy}
 use Rattle.dispatcher.specs.Runs.{playOf, stateAt, shownAt}
 use Rattle.dispatcher.specs.Bytes.{bytesOf, stateOf, unclear}
 use Rattle.dispatcher.specs.Outcome.{writtenOf}
 use Rattle.dispatcher.proofs.StateBytes.{length-state}
-use Rattle.dispatcher.proofs.StepFacts.{Allowed, kept-shown, right-lengths, none-refuses, when-shown, when-refused}
+use Rattle.dispatcher.proofs.StepFacts.{Allowed, kept-shown, right-lengths, none-refuses, when-refused}
 use Rattle.dispatcher.specs.ForC.{startLeaves, startRules, startVerdict, firstBytes, startFor, stepLeaves, tickIn, answerIn, stepFor}
 use Rattle.theorems.specs.Demand3Terms.{Fits, LowReports}
 use Rattle.theorems.specs.Demand3Plans.{allowed-at, step-at}
-use Rattle.theorems.specs.Demand3.{goes-on, bytes-keep}
+use Rattle.theorems.specs.Demand3.{bytes-keep}
 
 -- ==== The bytes of tasks that are a head and nothing more stand for a set, and C's run on them is that set's run, to which the theorems of demand 3 apply.
 module _ (tasks slots : List ℕ) (fitting : takenOf tasks .fits ≡ true) where

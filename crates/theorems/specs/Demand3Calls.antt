@@ -16,7 +16,7 @@ use Rattle.dispatcher.specs.declared.State.{State}
 use Rattle.dispatcher.specs.declared.Answer.the-variants as answer
 use Rattle.dispatcher.specs.declared.Stepped.{Stepped}
 use Rattle.dispatcher.specs.Answers.{numberOf}
-use Rattle.dispatcher.specs.Refusals.{firstState, steppedOf, leftOf}
+use Rattle.dispatcher.specs.Refusals.{firstState, steppedOf}
 use Rattle.dispatcher.specs.Runs.{Play, playOf, stateAt, shownAt}
 use Rattle.dispatcher.proofs.StepFacts.{Allowed, none-refuses, taken-allowed, refused-step, number-refused, report-low}
 use Rattle.theorems.specs.Demand3Terms.{Caller, Rows, withRow, playCalls, takenCalls, rightOf}

@@ -12,7 +12,8 @@ use Rattle.kinds.specs.Tasks.{Tasks, Patterns, Set, running, fromTask, toTask, 
 use Rattle.kinds.specs.Cycle.{jobsOf}
 use Rattle.kinds.specs.Links.{linkFrom, linkTo, repeats}
 use Rattle.kinds.specs.Plans.{Plan, slot, ticks}
-use Rattle.judge.specs.Rules.{high, twin, mated, clashes, strays, strayed, miscounts, miscounted, broken, breaks, brokenPair, brokenPattern}
+use Rattle.slots.specs.High.{high}
+use Rattle.judge.specs.Rules.{twin, mated, clashes, strays, strayed, miscounts, miscounted, broken, breaks, brokenPair, brokenPattern}
 use Rattle.vocabulary.specs.Lowest.{Search, Search2, Search3}
 use Rattle.theorems.specs.Names.{TooHigh, Doubled, Misplaced, Miscounted, LinkBroken}
 use Rattle.judge.proofs.Broken.{kept-iff}

@@ -23,11 +23,12 @@ use Rattle.kinds.specs.Sound.{sound}
 use Rattle.kinds.proofs.SoundFacts.{Sound, sound-facts}
 use Rattle.laws.specs.Order.{task-low, task-of-number, job-of-number}
 use Rattle.screen.specs.declared.Finding.the-variants as finding
-use Rattle.screen.specs.Network.{network}
-use Rattle.screen.specs.NetworkLaws.{jobs-of-network, inside-network, inner-low, Made, each-made}
-use Rattle.screen.specs.Times.{ownRelease, ownDue, ownRunning, releaseWeight, adjustedRelease}
-use Rattle.screen.specs.TimesLaws.{own-due-low, some-own-running, release-weight-low, ahead, adjusted-deadline-is}
-use Rattle.screen.specs.Findings.{tight, findingOf}
+use Rattle.network.specs.Network.{network}
+use Rattle.network.specs.NetworkLaws.{jobs-of-network, inside-network, inner-low, Made, each-made}
+use Rattle.network.specs.Times.{ownRelease, ownDue, ownRunning, releaseWeight, adjustedRelease}
+use Rattle.network.specs.TimesLaws.{own-due-low, some-own-running, release-weight-low, ahead, adjusted-deadline-is}
+use Rattle.network.specs.Causes.{tight}
+use Rattle.screen.specs.Findings.{findingOf}
 use Rattle.theorems.specs.ScreenTimes.{NoCycle}
 use Rattle.theorems.specs.ScreenTrue.{tight-iff, Finds, only-finding}
 use Rattle.theorems.specs.ScreenJobs.{Jobs, Given, no-ring, room-between}

@@ -19,7 +19,7 @@ use Rattle.kinds.specs.Plans.{Plan, slot, shows, shown, runs, ticks}
 use Rattle.kinds.specs.Valid.{Exact}
 use Rattle.kinds.proofs.SoundFacts.{Sound}
 use Rattle.laws.specs.Repeat.{shown-again, runs-awake}
-use Rattle.screen.specs.Findings.{load, room}
+use Rattle.network.specs.Causes.{load, room}
 
 -- a slot shows one task at most
 one-task : (v n : ℕ) → (total (λ i. bit (eqb v (i + 1))) n ≤ 1) × (n < v → total (λ i. bit (eqb v (i + 1))) n ≡ 0)

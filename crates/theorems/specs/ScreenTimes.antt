@@ -17,10 +17,10 @@ use Rattle.kinds.specs.Tasks.{Tasks, Patterns, Set}
 use Rattle.kinds.specs.Cycle.{jobs}
 use Rattle.kinds.specs.Sound.{sound}
 use Rattle.kinds.proofs.SoundFacts.{Sound, sound-facts}
-use Rattle.screen.specs.Network.{network}
-use Rattle.screen.specs.NetworkLaws.{jobs-of-network, inside-network}
-use Rattle.screen.specs.Times.{ownRelease, ownDue, ownRunning, releaseWeight, AdjustedReleases, AdjustedDeadlines, adjustedRelease, adjustedDeadline}
-use Rattle.screen.specs.TimesLaws.{ahead, ahead-low, adjusted-release-low, adjusted-deadline-is}
+use Rattle.network.specs.Network.{network}
+use Rattle.network.specs.NetworkLaws.{jobs-of-network, inside-network}
+use Rattle.network.specs.Times.{ownRelease, ownDue, ownRunning, releaseWeight, AdjustedReleases, AdjustedDeadlines, adjustedRelease, adjustedDeadline}
+use Rattle.network.specs.TimesLaws.{ahead, ahead-low, adjusted-release-low, adjusted-deadline-is}
 
 -- no way of at least one link leads from a job of the cycle to itself
 pub record NoCycle (u : Tasks) (v : Patterns) : Type 0 where

@@ -21,13 +21,14 @@ use Rattle.laws.specs.Order.{task-low, task-of-number, job-of-number, number-lo
 use Rattle.laws.specs.Back.{job-of-low, number-back}
 use Rattle.screen.specs.declared.Finding.{Finding}
 use Rattle.screen.specs.declared.Finding.the-variants as finding
-use Rattle.screen.specs.Network.{network}
-use Rattle.screen.specs.NetworkLaws.{inside-network}
-use Rattle.screen.specs.Times.{ownRunning, AdjustedReleases, AdjustedDeadlines, adjustedRelease, adjustedDeadline}
+use Rattle.network.specs.Network.{network}
+use Rattle.network.specs.NetworkLaws.{inside-network}
+use Rattle.network.specs.Times.{ownRunning, AdjustedReleases, AdjustedDeadlines, adjustedRelease, adjustedDeadline}
 use Rattle.screen.specs.Answers.{findingNumber}
-use Rattle.screen.specs.Findings.{onCycle, load, room, tight, screenRules, findingOf}
-use Rattle.screen.specs.Findings.{lowestCycle, lowestTight}
-use Rattle.screen.specs.Order.{not-sound, on-cycle, overloaded, too-tight, nothing-found}
+use Rattle.network.specs.Causes.{onCycle, load, room, tight}
+use Rattle.screen.specs.Findings.{screenRules, findingOf}
+use Rattle.network.specs.Causes.{lowestCycle, lowestTight}
+use Rattle.screen.proofs.Order.{not-sound, on-cycle, overloaded, too-tight, nothing-found}
 use Rattle.theorems.specs.ScreenTimes.{NoCycle, adjusted-releases, adjusted-releases-only, adjusted-deadlines, adjusted-deadlines-only}
 
 -- ---- what each finding says

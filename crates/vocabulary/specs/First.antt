@@ -155,9 +155,6 @@ pub record Claim : Type 1 where
 abbrev pub claim : ℕ → Type 0 → Claim
 claim n K = record { number = n; Kept = K }
 
-abbrev pub order : List Claim → List ℕ
-order cs = map (λ c. c .number) cs
-
 abbrev pub pickType : Bool → Type 0 → Type 0 → Type 0
 pickType true K L = K
 pickType false K L = L

@@ -1,28 +1,18 @@
-use Rattle.screen.specs.Tables.{tables-are, numbered-tables}
-use Rattle.screen.specs.Written.{unsound-set}
-use Rattle.screen.specs.Findings.{adjustedOf}
-use Rattle.kinds.specs.Tasks.{Set}
-use Rattle.kinds.specs.SoundByTests.{counts-none, counts-found}
-use mathlib.Core.Path.{sym, ap, _∙_}
 use borrow.Author.Needs.{needs}
 use Rattle.screen.proofs.adjusted_for.Statement.{statement}
 use Rattle.screen.proofs.adjusted_for.Tie as tie
 
--- src/lib.rt:168:9
-counts-of-requires : tie.Need-counts-of-requires
-counts-of-requires c κs = search needs
+-- src/lib.rt:109:17
+found-requires : tie.Need-found-requires
+found-requires c κs = search needs
 
--- src/lib.rt:170:9
+-- src/lib.rt:109:5
+adjusted-of-requires : tie.Need-adjusted-of-requires
+adjusted-of-requires c κs = search needs
+
+-- src/lib.rt:106:1
 returns : tie.Need-returns
-returns c = unsound-set _ _ _ (counts-none _ (c .before .before .counts-of .ensures) (c .if1 .taken))
-
--- src/lib.rt:175:5
-adjusted-in-requires : tie.Need-adjusted-in-requires
-adjusted-in-requires c κs = numbered-tables _ _ (counts-found _ (c .before .before .before .before .before .before .before .before .counts-of .ensures) (c .before .before .before .before .before .before .if1 .left))
-
--- src/lib.rt:165:1
-returns-2 : tie.Need-returns-2
-returns-2 c = c .adjusted-in .ensures ∙ ap (λ (s : Set). adjustedOf s (c .before .before .before .before .before .before .before .before .before .before .args .releases) (c .before .before .before .before .before .before .before .before .before .before .args .deadlines)) (tables-are _ _ (counts-found _ (c .before .before .before .before .before .before .before .before .before .counts-of .ensures) (c .before .before .before .before .before .before .before .if1 .left)))
+returns c = c .adjusted-of .ensures _ (c .before .found .ensures)
 
 pub adjusted-for-spec : {M : Type 1} → statement M
-adjusted-for-spec = tie.close (tie.spec counts-of-requires returns adjusted-in-requires returns-2)
+adjusted-for-spec = tie.close (tie.spec found-requires adjusted-of-requires returns)

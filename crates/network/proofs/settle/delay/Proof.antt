@@ -1,0 +1,79 @@
+use Rattle.graph.specs.JobRows.{delays, not-delays}
+use borrow.Author.Needs.{needs}
+use Rattle.network.proofs.settle.delay.Statement.{statement}
+use Rattle.network.proofs.settle.delay.Tie as tie
+
+-- src/settle.rt:25:13
+mul-p : tie.Need-mul-p
+mul-p c = search needs
+
+-- src/settle.rt:25:13
+slice-copy-out-p : tie.Need-slice-copy-out-p
+slice-copy-out-p c = search needs
+
+-- src/settle.rt:26:13
+mul-q : tie.Need-mul-q
+mul-q c = search needs
+
+-- src/settle.rt:26:13
+slice-copy-out-q : tie.Need-slice-copy-out-q
+slice-copy-out-q c = search needs
+
+-- src/settle.rt:27:8
+array-read-if1 : tie.Need-array-read-if1
+array-read-if1 c = search needs
+
+-- src/settle.rt:27:15
+array-read-if1-2 : tie.Need-array-read-if1-2
+array-read-if1-2 c = search needs
+
+-- src/settle.rt:28:20
+array-read-t19 : tie.Need-array-read-t19
+array-read-t19 c = search needs
+
+-- src/settle.rt:28:26
+array-read-t22 : tie.Need-array-read-t22
+array-read-t22 c = search needs
+
+-- src/settle.rt:28:32
+array-read-t25 : tie.Need-array-read-t25
+array-read-t25 c = search needs
+
+-- src/settle.rt:28:9
+mul-t27 : tie.Need-mul-t27
+mul-t27 c = search needs
+
+-- src/settle.rt:28:9
+slice-set-from-jobs : tie.Need-slice-set-from-jobs
+slice-set-from-jobs c = search needs
+
+-- src/settle.rt:29:9
+same-length : tie.Need-same-length
+same-length c = search needs
+
+-- src/settle.rt:29:9
+returns : tie.Need-returns
+returns c = delays _ _ _ (c .before .before .before .pre) (c .if1 .taken)
+
+-- src/settle.rt:21:1
+returns-2 : tie.Need-returns-2
+returns-2 c = not-delays _ _ _ (c .before .before .before .pre) (c .if1 .left)
+
+pub delay-spec : {M : Type 1} → statement M
+delay-spec =
+    tie.close
+    (tie.spec
+    mul-p
+    slice-copy-out-p
+    mul-q
+    slice-copy-out-q
+    array-read-if1
+    array-read-if1-2
+    array-read-t19
+    array-read-t22
+    array-read-t25
+    mul-t27
+    slice-set-from-jobs
+    same-length
+    returns
+    returns-2)

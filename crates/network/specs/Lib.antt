@@ -1,0 +1,12 @@
+pub mod Network
+pub mod Times
+pub mod Causes
+pub mod FoundOf
+pub mod NetworkLaws
+pub mod TimesLaws
+pub mod Tables
+pub mod Placed
+pub mod LinkLists
+pub mod JobTimes
+pub mod Named
+pub mod Outcome
