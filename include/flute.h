@@ -1,8 +1,8 @@
 /* Fluteparcel for C: the calls of libflute.a. Nothing is kept between calls, nothing is allocated, and calls may run side by side. Tables stand on the stack:
    docs/BENCH.md says how much of it each call was seen to touch.
 
-   A call answers its number: 0, or one of document 01's refusal numbers. Where several would fit, the first in the order that is said with the call
-   is answered. A refusal changes no byte that was lent.
+   A call answers its number: 0, or a refusal number of docs/RULES.md. Where several would fit, the first in the order that is said with the call is
+   answered. A refusal changes no byte that was lent.
 
    Every call has a partner `.._evidence` with the same arguments and `which`. It answers evidence number `which`, counted from 0, of what the call
    answers on these arguments, and 0 past the last; it writes nothing. A refused call has changed nothing, so its evidence can be asked after it. A job
@@ -93,7 +93,7 @@ uint32_t flute_start_evidence(const uint8_t *tasks, size_t tasks_len, const uint
     11  the plan has not exactly m·H slots, out not exactly m bytes, or state not exactly 21
     30  the state is not possible: its tick is not below H, its first-cycle byte is over 1, or it marks a task at or above the task count
     31  the report has a bit at or above the task count
-    12  a slot of this tick is above the task count: its place in the plan
+    12  a slot of this tick is above the task count: the lowest such place in the plan
      0  all m bytes of out and all 21 of the state are written
    A refused step is no tick, and its report is not heard. The plan is not judged again: step only what flute_start has started, with the same tasks and
    plan. No count of ticks since the start is kept, so none can overflow. */

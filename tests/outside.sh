@@ -1,6 +1,7 @@
 #!/usr/bin/env bash
-# Tests from outside: the archive is linked into C programs, as an integrator would, which run the vectors, the largest plans, random cases and the example.
-# Each line that differs is printed; the last line adds up. tests/stand_in.c, in the archive's place, runs the same programs on plain C.
+# Tests from outside: the archive is linked into C programs, as an integrator would, which run the vectors, the largest plans, random cases and the example;
+# the programs run on stored inputs. Archive and programs are proved and built first where they are not yet. Each line that differs is printed; the last line
+# adds up. tests/stand_in.c, in the archive's place, runs the same programs on plain C.
 set -u
 cd "$(dirname "$0")/.." || exit 2
 out=target/outside
@@ -10,6 +11,9 @@ passed=0 failed=0
 give_up() { echo "$1"; echo '0 passed, 1 failed'; exit 1; }
 
 rt staticlib flute || give_up 'the archive is not built'
+echo 'proving and building the programs: some minutes where nothing has been proved'
+programs=(tests/runs/*)
+rt check "${programs[@]##*/}" >"$out/programs.log" 2>&1 || { cat "$out/programs.log"; give_up 'the programs are not built'; }
 . tests/platform.sh
 for program in vectors largest random; do
     $cc -O2 tests/$program.c bench/plain.c $archive -o "$out/$program" || give_up "$program is not built"
@@ -43,6 +47,20 @@ stored() {
     else
         failed=$((failed + 1)) other=$((other + 1))
         echo "$name prints something else than $file holds"
+    fi
+}
+
+# ends STATUS COMMAND..: the command ends with the status.
+ends() {
+    local status=$1 got
+    shift
+    "$@" >/dev/null 2>&1
+    got=$?
+    if [ "$got" -eq "$status" ]; then
+        passed=$((passed + 1)) same=$((same + 1))
+    else
+        failed=$((failed + 1)) other=$((other + 1))
+        echo "'$*' ends with $got, and not with $status"
     fi
 }
 
@@ -80,12 +98,30 @@ echo "stored runs of programs: $same passed, $other failed"
 
 count 'source 003, adjusted times' env RUN="$run_kit" python3 tests/tables.py
 
-# The entry for people runs a program on a file, and ends with 2 where the arguments are wrong. Its progress, where it builds first, is on standard error.
-./flute judge >/dev/null 2>&1
-wrong=$?
+# The entry for people runs a program on a file. It ends with 1 after a refusal or finding and with 2 on wrong use; its progress, where it builds first, is on
+# standard error.
 same=0 other=0
-[ "$wrong" -eq 2 ] || { failed=$((failed + 1)) other=1; echo './flute takes wrong arguments'; }
 stored './flute judge' tests/runs/flute_judge/case_a.out sh -c './flute judge examples/case_a.plan 2>/dev/null'
+for command in read screen adjust judge show play; do ends 0 ./flute $command examples/case_a.plan; done
+ends 1 ./flute read tests/runs/flute_read/empty.in
+ends 1 ./flute screen tests/runs/flute_screen/case_i.in
+ends 1 ./flute adjust tests/runs/flute_adjust/case_k.in
+ends 1 ./flute judge tests/runs/flute_judge/case_e.in
+ends 1 ./flute show tests/runs/flute_show/left_over.in
+ends 1 ./flute play tests/runs/flute_play/case_e.in
+ends 0 ./flute play tests/runs/flute_play/case_m.in tests/runs/flute_play/case_m.reports
+ends 1 ./flute play tests/runs/flute_play/bad_report.in tests/runs/flute_play/bad_report.reports
+ends 2 ./flute
+ends 2 ./flute judge
+ends 2 ./flute look examples/case_a.plan
+for file in tests tests/runs/nowhere.in; do
+    ends 2 ./flute judge $file
+    ends 2 ./flute play examples/case_a.plan $file
+done
+stored './flute on a folder' <(echo 'flute: tests is a folder and no file') ./flute judge tests
+stored './flute on a missing file' <(echo 'flute: tests/nowhere is not there') ./flute judge tests/nowhere
 echo "entry for people: $same passed, $other failed"
+
+count 'rules and their definitions' python3 tests/rules.py
 echo "$passed passed, $failed failed"
 [ "$failed" -eq 0 ]

@@ -18,13 +18,18 @@ TOP = os.path.join(os.path.dirname(os.path.abspath(__file__)), '..')
 
 # The statements behind each demand: file below crates/, name, and what it says in plain words. That they stand in the file is tested.
 DEMANDS = [
-    ('Demand 1: every call ends well and answers as the paper says', '''
+    ('Demand 1: every call ends well and answers as the rules say', '''
 Whatever bytes a call is handed, and however many, it comes to an end, touches only what it was lent, loses nothing in a sum or a product, and gives exactly the
-answer that document 01 prescribes: this number with this evidence, and no other. A refused call changes nothing. This is proved function by function, for
-every input there is.''',
-     [('dispatcher/specs/Outcome.antt', 'one-outcome', 'for a step only one answer, one next state and one output are allowed'),
+answer that the rules (`docs/RULES.md`) prescribe: this number with this evidence, and no other. A call from C that refuses leaves every byte that it was lent as
+it was. This is proved function by function, for every input there is.''',
+     [('theorems/specs/Demands.antt', 'start-refused', 'a start that is refused leaves the state as it is'),
+      ('theorems/specs/Demands.antt', 'step-refused', 'and a step that is refused state and output'),
+      ('theorems/specs/Demands.antt', 'times-refused', 'and a refused call for adjusted times both buffers'),
+      ('flute/specs/Calls.antt', 'start-once', 'for a start from C only one number and one state are allowed'),
+      ('flute/specs/Calls.antt', 'step-once', 'for a step from C only one number, one state and one output'),
+      ('dispatcher/specs/Outcome.antt', 'one-outcome', 'for a step only one answer, one next state and one output are allowed'),
       ('screen/specs/Written.antt', 'answered-once', 'for adjusted times only one answer and one content of both buffers are allowed'),
-      ('reader/proofs/ReadLaws.antt', 'read-sound', 'tasks that are read keep every rule of the paper'),
+      ('reader/proofs/ReadLaws.antt', 'read-sound', 'tasks that are read keep every limit'),
       ('reader/proofs/ReadLaws.antt', 'read-long', 'a plan that is read has a slot for every tick and processor'),
       ('reader/proofs/ReadLaws.antt', 'read-slots', 'a plan that is read names no unknown task')]),
     ('Demand 2: accepted means right for ever, and nothing right is turned away', '''
@@ -36,7 +41,9 @@ shows where. The screen reports a set of tasks only with a true finding, and the
       ('theorems/specs/Demand2.antt', 'first-rule', 'otherwise it names the first broken rule, at the lowest place'),
       ('theorems/specs/Demand2.antt', 'one-verdict', 'no second verdict would be as right'),
       ('theorems/specs/ScreenTrue.antt', 'finding-true', 'what the screen finds is so'),
-      ('theorems/specs/Accepted.antt', 'finding-is-final', 'after a finding no plan for these tasks is accepted')]),
+      ('theorems/specs/Accepted.antt', 'finding-is-final', 'after a finding no plan for these tasks is accepted'),
+      ('theorems/specs/Demand2Bytes.antt', 'judged-zero', 'all this for the bytes that a controller hands to the judge'),
+      ('theorems/specs/ShutOut.antt', 'not-repeat', 'a judge that always says the same would not do')]),
     ('Demand 3: a right plan is rightly played', '''
 From an accepted plan, for any number of ticks and whatever finishes early: every job whose deadline has passed, and that was not heard to finish before its last
 planned tick, has had exactly its planned ticks. No job gets more, or any after it is heard to finish. None runs before the ticks of those that it waits for are
@@ -50,8 +57,10 @@ over. What one task reports changes no tick of another.''',
       ('theorems/specs/Demand3.antt', 'none-after', 'or any after it is heard to finish'),
       ('theorems/specs/Demand3.antt', 'in-order', 'no job runs before those that it waits for are over'),
       ('theorems/specs/Demand3.antt', 'own-reports-only', "other tasks' early finishes change nothing for a task"),
-      ('theorems/specs/Demand3Bytes.antt', 'goes-on-in-bytes', 'all of this holds of the run that the controller makes, with the state kept in its 21 bytes'),
-      ('theorems/specs/Demand3Bytes.antt', 'refused-in-bytes', 'in which a refused step leaves state and output as they are')]),
+      ('theorems/specs/Demand3Shown.antt', 'shown-once', 'no task is shown on two processors in one tick'),
+      ('theorems/specs/Demand3ForC.antt', 'plays-for-C', 'all of this holds of the rows that the controller gets from its calls, however many, refused ones among them'),
+      ('theorems/specs/Demand3ForC.antt', 'own-reports-for-C', 'the last of it too'),
+      ('theorems/specs/Demand3Bytes.antt', 'refused-in-bytes', 'and a refused step leaves state and output as they are, whatever they were')]),
 ]
 
 NOT_COVERED = '''
@@ -60,7 +69,8 @@ NOT_COVERED = '''
 - **C callers.** That a pointer and a length describe one buffer, and that a buffer that is written overlaps no other, is the caller's part.
 - **Time.** How long a call takes is measured (`docs/BENCH.md`) and not proved.
 - **The kit**: the prover, and its libraries for files and terminals, on which the small programs rest, and not the calls for C.
-- **The paper itself.** That document 01 asks for what the fire engine needs, and that running times are what they are said to be.'''
+- **The rules themselves.** That they (`docs/RULES.md`, after the customer's document 01) ask for what the fire engine needs, and that running times are what they are
+  said to be.'''
 
 problems = []
 
@@ -246,13 +256,14 @@ def edit_sections(refused, lines, crates):
     rows = [(f'`{crate}`', said, 'refused' if (crate, label) in refused else 'NOT SEEN IN THE LOG')
             for crate in crates for label, said in wrong_edits(crate).items()]
     out += table(['part', 'rule that the edit breaks', 'outcome'], rows) + ['']
-    out += paragraph("And definitions: each line is a wrong reading of the paper. With it the paper's own cases A to M no longer come out, and the checker refused it.")
+    out += paragraph('And definitions: each line is a wrong reading of a rule. With it the marked cases A to M no longer come out, or where they still do a case of the second',
+                     'table does not, and the checker refused it.')
     rows = []
     for label, said in edits('tests/definitions').items():
-        right = any(x == f'{label}: refused by the marked cases, as it must be' for x in lines)
-        if not right:
+        by = [m[1] for m in (re.fullmatch(rf'{label}: refused by (the marked cases|the second table), as it must be', x) for x in lines) if m]
+        if not by:
             problems.append(f'The log does not say that the changed definition `{label}` was refused.')
-        rows.append((said, 'refused' if right else 'NOT SEEN IN THE LOG'))
+        rows.append((said, f'refused by {by[0]}' if by else 'NOT SEEN IN THE LOG'))
     return out + table(['wrong reading', 'outcome'], rows) + ['']
 
 
@@ -273,8 +284,8 @@ def outside_section(lines):
     if not rows:
         problems.append('The log has no outside cases.')
     out = ['## Cases that were run', '']
-    out += paragraph('Beside the proofs, the archive that goes into the controller was linked into C programs and run. "Plain C" is a second program, written from document 01',
-                     'alone; it answers the same outside cases, so that it is a fair judge of the random ones.')
+    out += paragraph('Beside the proofs, the archive that goes into the controller was linked into C programs and run. "Plain C" is a second program, written from the',
+                     "customer's document 01 alone; it answers the same outside cases, so that it is a fair judge of the random ones.")
     out += table(['cases', '>run', '>differed'], rows)
     for x in told:
         out += [''] + paragraph(x)
@@ -316,12 +327,15 @@ def main():
                      'took a bad plan for a good one, or played a good one wrongly, a brake task could come too late.')
     out += paragraph('To test is to try some inputs. To prove is more: a checking program goes through a complete argument that covers every input there is. That was done here',
                      f'for {in_words(counts["functions"], "function", "functions")}. They are held against {in_words(counts["definitions"], "definition", "definitions")}, among them the',
-                     f'sentences of the paper (document 01) in exact form; {in_words(counts["laws"], "statement", "statements")} about these are proved as well. Of the functions',
+                     f'rules of the product (`docs/RULES.md`) in exact form; {in_words(counts["laws"], "statement", "statements")} about these are proved as well. Of the functions',
                      f'{counts["public"]} can be called from outside their part, {counts["for C"]} of them from C.',
                      f'{counts["asking"]} of these ask something of their caller.' if counts['asking'] else 'None of these asks anything of its caller.')
-    out += ['## The three demands', ''] + demands
-    out += paragraph("The paper's own cases A to M are proved to follow from the definitions, in one statement (`marked-cases` in `crates/cases/specs/Marked.antt`). So a",
-                     'definition that reads the paper wrongly at one of these cases would not have passed.')
+    out += ['## The three demands', '']
+    out += paragraph('They stand on one page, as statements about the bytes that a controller has, in `crates/theorems/specs/Demands.antt`; each names its proof.')
+    out += demands
+    out += paragraph("The customer's own cases A to M (`docs/RULES.md`, section 14) are proved to follow from the definitions, in one statement (`marked-cases` in",
+                     '`crates/cases/specs/Marked.antt`). So a definition that reads a rule wrongly at one of these cases would not have passed. A second table, our own, does the',
+                     'same for every refusal number with every reason for it (`second-cases` in `crates/cases/specs/Second.antt`).')
     out += ['## Part by part', '']
     out += table(['part', '>functions proved', '>definitions', '>statements proved', '>wrong edits refused'], rows)
     total = [sum(r[k] for r in rows) for k in range(1, 5)]

@@ -1,10 +1,11 @@
-"""A changed definition must break the marked cases.
+"""A changed definition must break the marked cases, or the second table of cases.
 
 Each *.edit beside this file changes a definition of some crate. The script lays out the definitions that `cases` stands on, without code and without
-laws, so that nothing else can refuse the change; proves the cases there as they are; and then shows that each change makes them fail, with the first
-error in the table's statement. An edit has a comment, and `file:`, `old:` and `new:` lines as must-fail edits have, with the path from the top.
+laws, so that nothing else can refuse the change; proves both tables there as they are; and then shows that each change makes the marked cases fail. An
+edit in `second` makes a part of the second table fail and leaves the marked cases as they are. No other file may have an error. An edit has a comment, and
+`file:`, `old:` and `new:` lines as must-fail edits have, with the path from the top. RT_JOBS edits run at a time, as in rt.
 """
-import os, re, shutil, subprocess, sys
+import concurrent.futures, os, re, shutil, subprocess, sys
 
 TOP = os.path.abspath(os.path.join(os.path.dirname(__file__), '..', '..'))
 sys.dont_write_bytecode = True
@@ -12,6 +13,10 @@ sys.path.insert(0, os.path.join(TOP, 'tests'))
 from edit import change
 
 WORK = os.path.join(TOP, 'target', 'definitions')
+FIRST = {'Marked'}
+PARTS = {'ReaderCases', 'SetCases', 'JudgeCases', 'DispatcherCases'}
+# by an edit's folder, the table that has to fail: what it is called, its files, and the files that must have no error
+TABLES = {'': ('the marked cases', FIRST, set()), 'second': ('the second table', PARTS, FIRST)}
 USE = re.compile(r'^(?:ghost )?use Rattle·(\w+?)(?:·specs)?\.specs\.(\w+)', re.M)
 
 
@@ -94,35 +99,47 @@ def lay_out(where):
 
 
 def check(where):
-    ran = subprocess.run(['rt', 'check', 'cases'], cwd=where, capture_output=True, text=True)
+    """The status of a check, the files of `cases` or other files in which it found errors, and all that it said."""
+    ran = subprocess.run(['rt', 'check', 'cases'], cwd=where, capture_output=True, text=True, env=dict(os.environ, RT_JOBS='1'))
     said = ran.stdout + ran.stderr
-    first = re.search(r'^(\S+?):(\d+):\d+: error', said, re.M)
-    return ran.returncode, os.path.relpath(first.group(1), where) if first else '', said
+    found = {os.path.relpath(f, where) for f in re.findall(r'^(\S+?):\d+:\d+: error', said, re.M)}
+    return ran.returncode, {f.removeprefix('crates/cases/specs/').removesuffix('.antt') for f in found}, said
+
+
+def tried(folder, name):
+    """Whether the edit of a folder is refused by its table, and what to say of it."""
+    here = os.path.dirname(os.path.abspath(__file__))
+    where = os.path.join(TOP, 'target', 'definitions-changed', name[:-5])
+    shutil.rmtree(where, ignore_errors=True)
+    shutil.copytree(WORK, where)
+    bad = change(where, os.path.join(here, folder, name))
+    if bad:
+        return False, bad
+    status, errors, said = check(where)
+    table, files, kept = TABLES[folder]
+    # the joined statement fails where a part of its table does
+    if status == 1 and errors & files and not errors & kept and errors <= FIRST | PARTS | {'Second'}:
+        return True, f'refused by {table}, as it must be'
+    return False, 'NOT REFUSED' if status == 0 else f'refused elsewhere, at {", ".join(sorted(errors))}'
 
 
 def main():
     here = os.path.dirname(os.path.abspath(__file__))
     passed = failed = 0
     lay_out(WORK)
-    status, first, said = check(WORK)
+    status, errors, said = check(WORK)
     if status == 0:
         passed += 1
-        print('the marked cases follow from the definitions alone')
+        print('the marked cases and the second table follow from the definitions alone')
     else:
         failed += 1
-        print('the marked cases are not proved from the definitions alone:\n' + said[-3000:])
-    for name in sorted(f for f in os.listdir(here) if f.endswith('.edit')) if status == 0 else []:
-        where = os.path.join(TOP, 'target', 'definitions-changed', name[:-5])
-        shutil.rmtree(where, ignore_errors=True)
-        shutil.copytree(WORK, where)
-        bad = change(where, os.path.join(here, name))
-        status_, first, said = check(where) if bad is None else (2, '', '')
-        if bad is None and status_ == 1 and first == os.path.join('crates', 'cases', 'specs', 'Marked.antt'):
-            passed += 1
-            print(f'{name[:-5]}: refused by the marked cases, as it must be')
-        else:
-            failed += 1
-            print(f'{name[:-5]}: ' + (bad or ('NOT REFUSED' if status_ == 0 else f'refused elsewhere, first at {first}')))
+        print('the cases are not proved from the definitions alone:\n' + said[-3000:])
+    edits = [(folder, name) for folder in (TABLES if status == 0 else ())
+             for name in sorted(f for f in os.listdir(os.path.join(here, folder)) if f.endswith('.edit'))]
+    with concurrent.futures.ThreadPoolExecutor(int(os.environ.get('RT_JOBS') or min(4, os.cpu_count() or 1))) as pool:
+        for (_, name), (right, said) in zip(edits, pool.map(lambda edit: tried(*edit), edits)):
+            passed, failed = passed + right, failed + (not right)
+            print(f'{name[:-5]}: {said}', flush=True)
     print(f'{passed} passed, {failed} failed')
     return 0 if failed == 0 else 1
 

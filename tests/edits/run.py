@@ -6,7 +6,9 @@ tests/edits/NAME/*.edit, are of the same form and are tried over what does not c
 - checks it there from nothing by `rt dev`, which leaves a cache of every module that it checked;
 - shows that the unedited crate is proved by the very same command over a copy of that cache, with no module left to check: a case of its own;
 - for each edit, makes a copy of the crate and of that cache, applies the edit and demands that the same command refuses it because a fact fails.
-So every edit begins with the cache of the unedited crate, and none sees what another left. A refusal for another reason (the proof names something that
+So every edit begins with the cache of the unedited crate, and none sees what another left. Edits inside the bodies of different functions are tried
+together: a function is proved from its own body and from what others promise, so that an error in its proof comes of its own edit alone. An edit that is
+not refused in this way, at its own function and for failed facts only, is tried again by itself. A refusal for another reason (the proof names something that
 the edit took away, a text that does not parse, a crash) shows nothing, and is a failure. Of the edits that `rt ci` tried, crates/NAME/must-fail/*.edit, the
 logs that it left in target/must-fail are held to the same.
 
@@ -103,13 +105,15 @@ def lay_out(where, name, crates):
         os.symlink(os.path.join(TOP, 'target', built), os.path.join(where, 'target', built))
 
 
-def over_cache(label, name, crates, edit):
-    """Lays out the crate with the unedited cache, applies the edit, if any, and checks: what is wrong with the edit, or else what rt gave."""
+def over_cache(label, name, crates, *edits):
+    """Lays out the crate with the unedited cache, applies the edits, if any, and checks: what is wrong with an edit, or else what rt gave."""
     where = os.path.join(WORK, name, label)
+    shutil.rmtree(where, ignore_errors=True)
     lay_out(where, name, crates)
-    bad = change(os.path.join(where, 'crates', name), edit) if edit else None
-    if bad:
-        return bad, None
+    for edit in edits:
+        bad = change(os.path.join(where, 'crates', name), edit)
+        if bad:
+            return bad, None
     cache = os.path.join(where, 'target', 'inc', name)
     shutil.copytree(os.path.join(WORK, name, 'cache'), cache)
     status, said, took = rt(where, 'dev', name, longest=LONGEST)
@@ -127,7 +131,7 @@ def prepare(name, crates):
     if status != 0 or not re.search(r'^logic=proved ', said, re.M):
         return f'{name}: NOT PROVED unedited, from nothing (exit status {status}):\n{said[-3000:]}', False
     os.rename(os.path.join(first, 'target', 'inc', name), os.path.join(WORK, name, 'cache'))
-    _, (status, said, took) = over_cache('unedited', name, crates, None)
+    _, (status, said, took) = over_cache('unedited', name, crates)
     whole = re.search(rf'^crate {name}: modules loaded=[1-9]\d* checked=0$', said, re.M)
     if status != 0 or not whole or not re.search(r'^logic=proved .*\bincremental=trusted$', said, re.M):
         return f'{name}: NOT PROVED unedited, over its cache (exit status {status}):\n{said[-3000:]}', False
@@ -140,14 +144,18 @@ def fails(text):
     return any(form.match(text) for form in FACTS) or bool(wanted and TERM.search(MODULES.sub('', wanted.group(1))))
 
 
+def own_errors(said, home):
+    """The prover's own errors, those that do not follow from another: file, line and text of each."""
+    found = [m.groups() for m in ERROR.finditer(said) if not FOLLOWS.match(m.group(3))] + [m.groups() for m in SEARCH.finditer(said)]
+    return [(os.path.relpath(file, home), int(line), ' '.join(text.split())) for file, line, text in found]
+
+
 def refusal(said, home):
     """The place of the prover's first own error, one that does not follow from another; and what shows no failed fact, or None."""
-    own = [m.groups() for m in ERROR.finditer(said) if not FOLLOWS.match(m.group(3))] + [m.groups() for m in SEARCH.finditer(said)]
+    own = own_errors(said, home)
     if not own:
         return 'no place', 'there is no error but such as follow from another'
-    place = f'{os.path.relpath(own[0][0], home)}:{own[0][1]}'
-    texts = [' '.join(text.split()) for _, _, text in own]
-    return place, next((text for text in texts if not fails(text)), None)
+    return f'{own[0][0]}:{own[0][1]}', next((text for _, _, text in own if not fails(text)), None)
 
 
 def from_nothing(name, label):
@@ -179,6 +187,69 @@ def attempt(name, label, edit, crates, ready):
     if other:
         return f'{one}: NO FAILED FACT, first at {place}: {other[:300]}', False
     return f'{one}: refused at {place} ({took} s)', True
+
+
+def bodies(name):
+    """The functions of a crate whose names stand once in it: by file, the name with its first and last line."""
+    found, home = {}, os.path.join(TOP, 'crates', name, 'src')
+    for file in sorted(os.listdir(home)) if os.path.isdir(home) else []:
+        with open(os.path.join(home, file), encoding='utf-8') as f:
+            lines = f.read().split('\n')
+        for at, line in enumerate(lines):
+            m = re.match(r'( *)(?:pub(?:\(crate\))? )?(?:extern "C" )?fn (\w+)', line)
+            if m:
+                end = next(k for k in range(at, len(lines)) if lines[k] == m[1] + '}')
+                found.setdefault(m[2], []).append((f'src/{file}', at + 1, end + 1))
+    return {fn: places[0] for fn, places in found.items() if len(places) == 1}
+
+
+def body_of(name, edit, functions):
+    """The one function of a crate in whose body an edit stands, or None: a promise, a constant or a definition is no part of a body."""
+    with open(edit, encoding='utf-8') as f:
+        lines = f.read().split('\n')
+    file, homes = None, set()
+    for line in lines:
+        if line.startswith('file: '):
+            file = line[6:]
+        elif line.startswith('old: '):
+            if not file.startswith('src/') or '⌜' in line or '⌝' in line:
+                return None
+            with open(os.path.join(TOP, 'crates', name, file), encoding='utf-8') as f:
+                place = f.read().split(line[5:])[0].count('\n') + 1
+            homes |= {fn for fn, (where, first, last) in functions.items() if where == file and first < place <= last} or {None}
+    return homes.pop() if len(homes) == 1 else None
+
+
+def groups(name, edits):
+    """The edits of a crate in groups: those in the bodies of different functions together, any other alone."""
+    functions, made, alone = bodies(name), [], []
+    for label, edit in edits:
+        fn = body_of(name, edit, functions)
+        if fn is None:
+            alone.append({None: (label, edit)})
+            continue
+        group = next((g for g in made if fn not in g), None)
+        if group is None:
+            group = {}
+            made.append(group)
+        group[fn] = (label, edit)
+    return made + alone
+
+
+def together(name, number, group, crates, ready):
+    """Tries a group of edits: for each a line to print, and whether it is refused as it must be."""
+    if len(group) > 1 and ready.result()[1]:
+        label = f'group-{number}'
+        bad, ran = over_cache(label, name, crates, *(edit for _, edit in group.values()))
+        if not bad and ran[0] == 1 and re.search(r'^logic=not-proved$', ran[1], re.M):
+            functions, errors = bodies(name), own_errors(ran[1], os.path.join(WORK, name, label, 'crates', name))
+            own = {fn: [(file, line, text) for file, line, text in errors
+                        if os.path.basename(os.path.dirname(file)) == fn or file == functions[fn][0] and functions[fn][1] <= line <= functions[fn][2]] for fn in group}
+            if sum(map(len, own.values())) == len(errors):
+                return [(f'{name}/{label}: refused at {own[fn][0][0]}:{own[fn][0][1]} ({ran[2]} s, with {len(group) - 1} others)', True)
+                        if own[fn] and all(fails(text) for _, _, text in own[fn]) else attempt(name, label, edit, crates, ready)
+                        for fn, (label, edit) in group.items()]
+    return [attempt(name, label, edit, crates, ready) for label, edit in group.values()]
 
 
 def edits_in(folder):
@@ -235,14 +306,14 @@ def trial(home, crates):
     passed = failed = 0
     with concurrent.futures.ThreadPoolExecutor(int(os.environ.get('RT_JOBS') or min(4, os.cpu_count() or 1))) as pool:
         ready = {name: pool.submit(prepare, name, crates) for name in edits}
-        cases = [ready[name] if edit is None else pool.submit(attempt, name, label, edit, crates, ready[name])
-                 for name in edits for label, edit in [('', None)] + edits[name]]
+        cases = [case for name in edits for case in [ready[name]] + [pool.submit(together, name, number, group, crates, ready[name])
+                                                                   for number, group in enumerate(groups(name, edits[name]))]]
         if home == HERE:
             cases += [pool.submit(from_nothing, name, label) for name in crates for label, _ in edits_in(os.path.join(TOP, 'crates', name, 'must-fail'))]
         for case in cases:
-            line, right = case.result()
-            print(line, flush=True)
-            passed, failed = passed + right, failed + (not right)
+            for line, right in case.result() if isinstance(case.result(), list) else [case.result()]:
+                print(line, flush=True)
+                passed, failed = passed + right, failed + (not right)
     for name in edits:
         shutil.rmtree(os.path.join(WORK, name, 'cache'), ignore_errors=True)
     return passed, failed

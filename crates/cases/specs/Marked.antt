@@ -1,6 +1,6 @@
--- Document 01's marked cases A to M: one table, and one statement about the definitions.
-use mathlib.Core.Path.{_≡_, refl}
-use mathlib.Core.List.{List, [], _∷_, map}
+-- The marked cases A to M (docs/RULES.md, section 14): one table, and one statement about the definitions.
+use mathlib.Core.Path.{refl}
+use mathlib.Core.List.{List, [], _∷_}
 use Prim.Native.Nat.{ℕ}
 use lib.IntN.{ℤ, pos, subℕ}
 use lib.ListN.{set, drop}
@@ -22,7 +22,7 @@ use Rattle.kinds.specs.Links.{common, linkFrom, linkTo, repeats, linksOf, links
 use Rattle.kinds.specs.Sound.{attributesFit, taskFits, pairKey, pairFits, patternKey, headingFits, patternFits, openingFits, sound}
 use Rattle.kinds.specs.Plans.{slot, shows, shown, awake, runs, ticks}
 use Rattle.numbers.specs.Numbers.{numberAt, held, gotAt, andThen}
-use Rattle.heads.specs.Tables.{taskFrom, onTask, tasksFrom, twoAt, onTwo, pairsFrom, onTwoHeading, headingAt, onHeading, onPairs, patternsFrom}
+use Rattle.heads.specs.Tables.{timesFrom, taskFrom, onTask, tasksFrom, twoAt, onTwo, pairsFrom, onTwoHeading, headingAt, onHeading, onPairs, patternFrom, onPattern, patternsFrom}
 use Rattle.heads.specs.Heads.{openingOf, middleFrom, onOpening, onTasks, onMiddle, onPatterns, headFrom}
 use Rattle.reader.specs.Files.{slotsFrom, onSlots, onHead, readOf}
 use Rattle.slots.specs.High.{high}
@@ -34,7 +34,8 @@ use Rattle.network.specs.Causes.{onCycle, load, room, tight}
 use Rattle.screen.specs.Findings.{screenRules, findingOf}
 use Rattle.dispatcher.specs.Steps.{releases, heard, doneAt, doneOf, asleep, byteOf, rowOf, standsAt, inRow, ranOf, afterOf, stepOf}
 use Rattle.dispatcher.specs.Runs.{stateAt, shownAt}
-use Rattle.cases.specs.Questions.{Question, Reply, is, refusedBy, says, times, rows, reply, numberReply, taskNumbers, headingNumbers, pairNumbers, setOf, silence, reportAfter}
+use Rattle.cases.specs.Questions.{Row, Answered, is, refusedBy, says, times, rows, at, reply, numberReply}
+use Rattle.cases.specs.Questions.{taskNumbers, headingNumbers, pairNumbers, setOf, silence, reportAfter}
 use Rattle.cases.specs.Questions as ask
 
 -- ---- A
@@ -64,6 +65,9 @@ slotsC = 1 ∷ 2 ∷ 1 ∷ 2 ∷ 1 ∷ 3 ∷ 1 ∷ 3 ∷ 1 ∷ 0 ∷ []
 setD : Set
 setD = setOf 1 ((4, 2, 3, 4) ∷ (4, 1, 0, 4) ∷ []) ((0, 1, 0, 0) ∷ [])
 
+slotsD : List ℕ
+slotsD = 1 ∷ 1 ∷ 2 ∷ 0 ∷ []
+
 setG : Set
 setG = setOf 2 ((2, 1, 0, 2) ∷ []) []
 
@@ -83,8 +87,8 @@ setK = setOf 1 ((4, 1, 0, 4) ∷ (4, 1, 0, 4) ∷ []) ((0, 1, 0, 0) ∷ (1, 0, 0
 minus : ℕ → ℤ
 minus n = subℕ 0 n
 
--- ---- the table: each question, and what document 01 prints
-cases : List (Question × Reply)
+-- ---- the table: each question, and the answer that is printed for it
+cases : List Row
 cases =
     -- A: the whole is 45 bytes, read and accepted.
     (ask.lengthOf fileA, is 45)
@@ -95,8 +99,10 @@ cases =
     -- C: accepted, and the first six steps.
     ∷ (ask.judging setC slotsC, says (0 ∷ []))
     ∷ (ask.playing setC slotsC silence 0 6, rows ((0 ∷ 2 ∷ []) ∷ (1 ∷ 2 ∷ []) ∷ (1 ∷ 3 ∷ []) ∷ (1 ∷ 3 ∷ []) ∷ (1 ∷ 0 ∷ []) ∷ (1 ∷ 2 ∷ []) ∷ []))
-    -- D: 23 with 0, 0, 0.
-    ∷ (ask.judging setD (1 ∷ 1 ∷ 2 ∷ 0 ∷ []), says (23 ∷ 0 ∷ 0 ∷ 0 ∷ []))
+    -- D: 23 with 0, 0, 0. Job 0 of task 0 runs at 4 and 5.
+    ∷ (ask.judging setD slotsD, says (23 ∷ 0 ∷ 0 ∷ 0 ∷ []))
+    ∷ (ask.runningAt setD slotsD 0 0, at (4 ∷ 5 ∷ []))
+    ∷ (ask.getting setD slotsD 0 0, is 2)
     -- E: 22, task 0 job 2, 4 ticks. F: 22, task 0 job 1, 2 ticks.
     ∷ (ask.judging setA (set slotsA 23 1), says (22 ∷ 0 ∷ 2 ∷ 4 ∷ []))
     ∷ (ask.judging setA (set slotsA 10 0), says (22 ∷ 0 ∷ 1 ∷ 2 ∷ []))
@@ -126,7 +132,16 @@ cases =
     ∷ (ask.playing setA slotsA (reportAfter 1 3) 13 5, rows ((2 ∷ []) ∷ (2 ∷ []) ∷ (2 ∷ []) ∷ (2 ∷ []) ∷ (2 ∷ []) ∷ []))
     ∷ []
 
--- ==== The definitions answer every marked case as document 01 prints it.
-marked-cases : map (λ (c : Question × Reply). reply (c .0)) cases ≡ map (λ (c : Question × Reply). c .1) cases
-unfolding cases fileA setA slotsA setC slotsC setD setG setH setI setJ setK minus reply numberReply taskNumbers headingNumbers pairNumbers setOf silence reportAfter least all count total table join gather has pack lcm lcmOf reach loops longest.most longest.entry longest.rounds soonest.fewest soonest.due soonest.soonest holds rises pairsIn cycle jobsOf jobsBefore jobs cycleFits release due inWindow numberOfJob taskOfJob jobOfJob common linkFrom linkTo repeats linksOf links inner spansOf linksIn attributesFit taskFits pairKey pairFits patternKey headingFits patternFits openingFits sound slot shows shown awake runs ticks numberAt held gotAt andThen taskFrom onTask tasksFrom twoAt onTwo pairsFrom onTwoHeading headingAt onHeading onPairs patternsFrom openingOf middleFrom onOpening onTasks onMiddle onPatterns headFrom slotsFrom onSlots onHead readOf high twin mated clashes strays strayed miscounts miscounted against bars broken breaks brokenPair brokenPattern highAt twiceAt outsideAt wrongAt brokenAt firstOf planRules rules verdictOf pairLinks patternLinks cycleLinks linkStarts linkEnds network ownRelease ownDue ownRunning releaseWeight adjustedRelease adjustedDeadline onCycle load room tight screenRules findingOf releases heard doneAt doneOf asleep byteOf rowOf standsAt inRow ranOf afterOf stepOf stateAt shownAt
+-- ==== The definitions answer every marked case as it is printed.
+marked-cases : Answered cases
+unfolding cases fileA setA slotsA setC slotsC setD slotsD setG setH setI setJ setK minus reply numberReply taskNumbers headingNumbers pairNumbers setOf
+    silence reportAfter least all count total table join gather has pack lcm lcmOf reach loops longest.most longest.entry longest.rounds soonest.fewest
+    soonest.due soonest.soonest holds rises pairsIn cycle jobsOf jobsBefore jobs cycleFits release due inWindow numberOfJob taskOfJob jobOfJob common
+    linkFrom linkTo repeats linksOf links inner spansOf linksIn attributesFit taskFits pairKey pairFits patternKey headingFits patternFits openingFits
+    sound slot shows shown awake runs ticks numberAt held gotAt andThen timesFrom taskFrom onTask tasksFrom twoAt onTwo pairsFrom onTwoHeading headingAt onHeading
+    onPairs patternFrom onPattern patternsFrom openingOf middleFrom onOpening onTasks onMiddle onPatterns headFrom slotsFrom onSlots onHead readOf high twin mated clashes
+    strays strayed miscounts miscounted against bars broken breaks brokenPair brokenPattern highAt twiceAt outsideAt wrongAt brokenAt firstOf planRules
+    rules verdictOf pairLinks patternLinks cycleLinks linkStarts linkEnds network ownRelease ownDue ownRunning releaseWeight adjustedRelease
+    adjustedDeadline onCycle load room tight screenRules findingOf releases heard doneAt doneOf asleep byteOf rowOf standsAt inRow ranOf afterOf stepOf
+    stateAt shownAt
 marked-cases = refl

@@ -1,4 +1,4 @@
--- "For the C side the state is 21 bytes: tick (4), first cycle (1; holding 1 during it, 0 after, else 30), done (8), ran (8), lowest byte first."
+-- Rule R12.2: the state as 21 bytes, four for the tick, one for the first cycle, eight for the done marks and eight for the ran marks.
 use mathlib.Core.Bool.{Bool}
 use mathlib.Core.List.{List, [], _∷_, _++_}
 use Prim.Native.Nat.{ℕ, zero, suc, _+_, _*_, _/_, _%_}
@@ -20,7 +20,7 @@ number s at (suc n) = getD s at 0 + 256 * number s (at + 1) n
 unfoldable pub bytesOf : State → List ℕ
 bytesOf s = bytes 4 (s .tick) ++ (bytes 1 (bit (s .first)) ++ (bytes 8 (s .done) ++ bytes 8 (s .ran)))
 
--- the first-cycle byte is neither 0 nor 1
+-- Rule R12.3: the first-cycle byte is neither 0 nor 1
 unfoldable pub unclear : List ℕ → Bool
 unclear s = leb 2 (getD s 4 0)
 

@@ -19,7 +19,7 @@ use Rattle.dispatcher.specs.Refusals.{firstState, onVerdict, impossible,
 use Rattle.dispatcher.specs.Bytes.{bytesOf, stateOf, unclear}
 use Rattle.dispatcher.specs.Outcome.{writtenOf}
 
--- ---- starting: "10, 11, 12, 20, 21, 22, 23", where 11 is about the state's length too
+-- ---- starting: as the judge, and rule R12.4, by which 11 is about the state's length too
 -- what a start leaves: the verdict, and the state's bytes
 pub record StartForC : Type 0 where
   pub verdict : Verdict
@@ -47,7 +47,7 @@ startFor tasks slots state =
     let v : Verdict = startVerdict tasks slots (length state) in
     startLeaves v (firstBytes v state)
 
--- ---- stepping: "10 (tasks and m), 11 (plan, output, C state), 30, 31, 12 (this tick's slots only)"
+-- ---- stepping: rule R11.4, with rules R12.3 and R12.4
 -- what a step leaves: the answer, the state's bytes and the output
 pub record StepForC : Type 0 where
   pub answer : Answer
@@ -61,7 +61,7 @@ stepLeaves a b out = record { answer = a; state = b; out = out }
 abbrev pub lengthsForC : Set → List ℕ → List ℕ → ℕ → Bool
 lengthsForC s slots b out = lengthsFit (s .processors) (cycle (s .tasks)) (length slots) out && eqb (length b) 21
 
--- "first cycle (1; holding 1 during it, 0 after, else 30)"
+-- Rules R11.5 and R12.3: 30
 abbrev pub impossibleForC : Set → List ℕ → Bool
 impossibleForC s b = unclear b || impossible (s .tasks) (cycle (s .tasks)) (stateOf b)
 

@@ -12,7 +12,7 @@ use Rattle.dispatcher.specs.declared.Stepped.{Stepped}
 use Rattle.dispatcher.specs.Refusals.{steppedOf, leftOf}
 use Rattle.dispatcher.specs.Bytes.{bytesOf}
 
--- "For every input, refused or not, a call's statement determines answer, evidence, next state and each byte lent for writing."
+-- Rule R7.8: for every input the answer, the next state and each byte of the output are determined.
 pub record StepOutcome (s : Set) (slots : List ℕ) (state : State) (report : ℕ) (out : List ℕ) (r : Stepped) (out′ : List ℕ) : Type 0 where
   pub answer : r ≡ steppedOf s slots state report out
   pub left : out′ ≡ leftOf s slots state report out
@@ -24,7 +24,7 @@ pub one-outcome : {s : Set} {slots : List ℕ} {state : State} {report : ℕ} {o
     → (r ≡ t) × (a ≡ b)
 one-outcome p q = (p .answer ∙ sym (q .answer), p .left ∙ sym (q .left))
 
--- "For the C side the state is 21 bytes": writing leaves them where there is room for just these, else what was there
+-- Rule R12.2: writing leaves the state's 21 bytes where there is room for just these, else what was there
 unfoldable pub writtenOf : State → List ℕ → List ℕ
 writtenOf s out = pick (eqb (length out) 21) (bytesOf s) out
 

@@ -19,11 +19,11 @@ use Rattle.dispatcher.specs.declared.Answer.the-variants as answer
 use Rattle.dispatcher.specs.declared.Stepped.{Stepped}
 use Rattle.dispatcher.specs.Steps.{OneTick, rowOf, stepOf}
 
--- "a state with tick 0 of the first cycle, nobody done, nobody ran"
+-- Rule R11.2: the state that a start gives.
 abbrev pub firstState : State
 firstState = record { tick = 0; first = true; done = 0; ran = 0 }
 
--- "Starting runs the judge: it refuses as the judge does, or gives a state". A refusal hands back the state that came in.
+-- Starting runs the judge. A refusal hands back the state that came in.
 unfoldable pub onVerdict : {A : Type 0} → Verdict → A → A → A
 onVerdict verdict.Accepted a b = a
 onVerdict verdict.BadSet a b = b
@@ -38,15 +38,15 @@ unfoldable pub startedOf : Set → List ℕ → State → Started
 startedOf s slots state = let v : Verdict = verdictOf s slots in record { verdict = v; state = onVerdict v firstState state }
 
 -- ---- the rules of a step
--- "State 30: tick not below H, or a mark at or above the task count."
+-- Rule R11.5, which is about 30
 unfoldable pub impossible : Tasks → ℕ → State → Bool
 impossible u h s = leb h (s .tick) || (leb (2 ^ u .count) (s .done) || leb (2 ^ u .count) (s .ran))
 
--- "31: a report bit at or above the task count"
+-- Rule R11.6, which is about 31
 unfoldable pub overreports : Tasks → ℕ → Bool
 overreports u report = leb (2 ^ u .count) report
 
--- "12 (this tick's slots only)"
+-- Rule R11.7, which is about 12 among this tick's slots
 unfoldable pub highSlot : ℕ → (ℕ → ℕ) → ℕ → Bool
 highSlot n row q = ltb n (row q)
 
@@ -57,8 +57,8 @@ isHigh k = some (highSlot (k .tasks .count) (k .row)) (k .processors)
 unfoldable pub highPlace : OneTick → ℕ
 highPlace k = k .place + least (highSlot (k .tasks .count) (k .row)) (k .processors)
 
--- "Refusals in order 10 (tasks and m), 11 (plan, output, C state), 30, 31, 12": `right` says that tasks and m are a sound set, `fits` that the lengths are
--- right, and `bad` that the state is not possible. A step by value and a step for C differ in these tests and in nothing else.
+-- Rule R11.4: the refusals of a step in their order. `right` says that tasks and m are a sound set, `fits` that the lengths are right, and `bad` that the
+-- state is not possible. A step by value and a step for C differ in these tests and in nothing else.
 unfoldable pub stepRules : Bool → Bool → Bool → OneTick → List (Rule Answer)
 stepRules right fits bad k =
     rule 10 (not right) answer.BadSet
@@ -116,7 +116,7 @@ answerOf s slots state report out =
 abbrev pub stepped : Answer → State → Stepped
 stepped a s = record { answer = a; state = s }
 
--- "A refused step is no tick and its reports aren't heard.": it hands back the state that came in
+-- Rule R11.13: a refused step hands back the state that came in,
 unfoldable pub steppedOf : Set → List ℕ → State → ℕ → List ℕ → Stepped
 steppedOf s slots state report out =
     let a : Answer = answerOf s slots state report (length out) in

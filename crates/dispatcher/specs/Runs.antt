@@ -46,6 +46,6 @@ shownAt y reports n = rowOf (tickAt y n (stateAt y reports n) (reports n))
 unfoldable pub gives : Play → (ℕ → ℕ) → ℕ → ℕ → Bool
 gives y reports i n = inRow (shownAt y reports n) i
 
--- "bit i: task i finished in the tick just ended": task i has tick n, and the next step is handed its report, so that the job is heard to finish
+-- task i has tick n, and the next step is handed its report (rule R11.8), so that the job is heard to finish
 unfoldable pub finishes : Play → (ℕ → ℕ) → ℕ → ℕ → Bool
 finishes y reports i n = gives y reports i n && has (reports (suc n)) i

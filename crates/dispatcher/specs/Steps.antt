@@ -26,11 +26,11 @@ pub record OneTick : Type 0 where
 unfoldable pub releases : Tasks → ℕ → ℕ → ℕ → Bool
 releases u h i c = eqb ((c + h - offset u i) % period u i) 0
 
--- "A report counts for a task that ran in the last step's tick; other bits are ignored and not heard." "before the tick that this step shows"
+-- Rule R11.8: a report counts for a task that ran in the last step's tick
 unfoldable pub heard : State → ℕ → ℕ → Bool
 heard s report i = has (s .ran) i && has report i
 
--- "Then jobs released at this tick clear their task's done mark."
+-- Rule R11.9: then the jobs that are released at this tick clear the done marks
 unfoldable pub doneAt : Tasks → ℕ → State → ℕ → ℕ → Bool
 doneAt u h s report i = not (releases u h i (s .tick)) && (has (s .done) i || heard s report i)
 
@@ -41,7 +41,7 @@ doneOf k = pack (doneAt (k .tasks) (k .cycle) (k .state) (k .report)) (k .tasks 
 unfoldable pub asleep : Tasks → State → ℕ → Bool
 asleep u s i = s .first && ltb (s .tick) (offset u i)
 
--- "Then each processor's byte is its slot, or 0 when the task isn't yet awake or is done."
+-- Rule R11.10: a processor's byte, for a slot v
 unfoldable pub byteOf : Tasks → State → ℕ → ℕ → ℕ
 byteOf u s done v = pick (eqb v 0 || (asleep u s (v - 1) || has done (v - 1))) 0 v
 
@@ -49,7 +49,7 @@ byteOf u s done v = pick (eqb v 0 || (asleep u s (v - 1) || has done (v - 1))) 0
 unfoldable pub rowOf : OneTick → List ℕ
 rowOf k = table (λ q. byteOf (k .tasks) (k .state) (doneOf k) (k .row q)) (k .processors)
 
--- "The ran marks become the tasks shown".
+-- Rule R11.11: the ran marks become the tasks that are shown.
 unfoldable pub standsAt : List ℕ → ℕ → ℕ → Bool
 standsAt bytes i q = eqb (getD bytes q 0) (i + 1)
 
@@ -59,7 +59,7 @@ inRow bytes i = some (standsAt bytes i) (length bytes)
 unfoldable pub ranOf : List ℕ → ℕ → ℕ
 ranOf bytes n = pack (inRow bytes) n
 
--- "the tick goes on by one, from H − 1 to 0, which ends the first cycle."
+-- Rule R11.12: the tick goes on by one, and behind the last one the first cycle is over.
 unfoldable pub afterOf : ℕ → State → ℕ → ℕ → State
 afterOf h s done ran =
     record {

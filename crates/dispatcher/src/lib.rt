@@ -338,7 +338,7 @@ pub fn step_head(tasks: &[u8], plan: &[u8], report: u64, state: &mut [u8], out: 
     look.written(state, out)
 }
 
-// The number of document 01 for what a step did: 0, 10, 11, 30, 31 or 12.
+// The number of what a step did: 0, 10, 11, 30, 31 or 12.
 pub fn number_of(a: Answer) -> u32
     ensures { λ n. ⌜ n ≡ numberOf a ⌝ }
 {

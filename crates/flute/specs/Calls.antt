@@ -1,4 +1,4 @@
--- What the calls for C answer: "To C a call answers its number, else 0; a second, on the same arguments, one evidence number at a time."
+-- Rule R12.5: what the calls for C answer, a number, and one evidence number at a time.
 use mathlib.Core.Path.{_≡_, refl, sym, ap, _∙_}
 use mathlib.Core.List.{List, [], _∷_}
 use Prim.Native.Nat.{ℕ, _%_}
@@ -9,7 +9,8 @@ use Rattle.heads.specs.declared.Outcome.{Outcome}
 use Rattle.heads.specs.declared.Outcome.the-variants as outcome
 use Rattle.numbers.specs.declared.Refusal.{Refusal}
 use Rattle.numbers.specs.declared.Refusal.the-variants as refusal
-use Rattle.reader.specs.Answers.{refusalEvidence, numberOf, evidenceOf}
+use Rattle.numbers.specs.Answers.{refusalEvidence}
+use Rattle.reader.specs.Answers.{numberOf, evidenceOf}
 use Rattle.reader.specs.Files.{readOf}
 use Rattle.judge.specs.declared.Verdict.{Verdict}
 use Rattle.judge.specs.Answers as judgeAnswers
@@ -46,6 +47,10 @@ started e n =
       kept = ap (λ (x : StartForC). x .state) e;
     }
 
+-- two outcomes that the contract allows on the same arguments are equal: number and state's bytes
+pub start-once : {b : StartForC} {r r′ : ℕ} {state state′ : List ℕ} → StartLeft b r state → StartLeft b r′ state′ → (r ≡ r′) × (state ≡ state′)
+start-once p q = (p .number ∙ sym (q .number), p .kept ∙ sym (q .kept))
+
 -- ---- flute_step: the answer's number, and what is left in the state's bytes and in the output
 pub record StepLeft (l : StepForC) (r : ℕ) (state out : List ℕ) : Type 0 where
   pub number : r ≡ stepAnswers.numberOf (l .answer)
@@ -59,6 +64,11 @@ stepped e n =
       kept = ap (λ (x : StepForC). x .state) e;
       shown = ap (λ (x : StepForC). x .out) e;
     }
+
+-- two outcomes that the contract allows on the same arguments are equal: number, state's bytes and output
+pub step-once : {l : StepForC} {r r′ : ℕ} {state state′ out out′ : List ℕ} → StepLeft l r state out → StepLeft l r′ state′ out′
+    → (r ≡ r′) × (state ≡ state′) × (out ≡ out′)
+step-once p q = (p .number ∙ sym (q .number), p .kept ∙ sym (q .kept), p .shown ∙ sym (q .shown))
 
 -- a look at a step has the step's answer
 pub looked : (tasks slots : List ℕ) (report : ℕ) (state out : List ℕ) {l : Look} → l ≡ lookFor tasks slots report state (length out)

@@ -1,4 +1,4 @@
-// Judges the plan of a plan file: the one that the first argument names, or standard input. Prints document 01's number, its evidence and words.
+// Judges the plan of a plan file: the one that the first argument names, or standard input. Prints the number of the answer, its evidence and words.
 use heads::Outcome;
 use kinds::TaskSet;
 
@@ -14,15 +14,11 @@ fn main() {
         return;
     }
     let n = input.length;
-    let loaded = reader::read(&file[..n]);
+    let loaded = place::plan_of(&file[..n]);
     let outcome = loaded.outcome;
     let set = loaded.set;
     match outcome {
         Outcome::Refused(r) => wording::print_refusal(r),
-        Outcome::At(place) => {
-            if place <= n {
-                judge_and_print(set, &file[place..n]);
-            }
-        }
+        Outcome::At(_) => judge_and_print(set, place::slots_of(&file[..n])),
     }
 }

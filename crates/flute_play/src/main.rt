@@ -153,15 +153,11 @@ fn main() {
         return;
     }
     let n = input.length;
-    let loaded = reader::read(&file[..n]);
+    let loaded = place::plan_of(&file[..n]);
     let outcome = loaded.outcome;
     let set = loaded.set;
     match outcome {
         Outcome::Refused(r) => wording::print_refusal(r),
-        Outcome::At(place) => {
-            if place <= n {
-                judge_and_play(set, &file[place..n]);
-            }
-        }
+        Outcome::At(_) => judge_and_play(set, place::slots_of(&file[..n])),
     }
 }

@@ -1,4 +1,4 @@
-// Reads a plan file: the one that the first argument names, or standard input. The first line is document 01's number, its evidence and words; then come
+// Reads a plan file: the one that the first argument names, or standard input. The first line is the number of the answer, its evidence and words; then come
 // the tasks and the patterns of a file that was read.
 use console::Line;
 use heads::Outcome;

@@ -1,4 +1,4 @@
-// Screens the task set of a plan file: the one that the first argument names, or standard input. Prints document 01's number, its evidence and words.
+// Screens the task set of a plan file: the one that the first argument names, or standard input. Prints the number of the answer, its evidence and words.
 use console::Line;
 use heads::Outcome;
 use kinds::Attributes;

@@ -118,15 +118,11 @@ fn main() {
         return;
     }
     let n = input.length;
-    let loaded = reader::read(&file[..n]);
+    let loaded = place::plan_of(&file[..n]);
     let outcome = loaded.outcome;
     let set = loaded.set;
     match outcome {
         Outcome::Refused(r) => wording::print_refusal(r),
-        Outcome::At(place) => {
-            if place <= n {
-                show(place, set, &file[place..n]);
-            }
-        }
+        Outcome::At(at) => show(at, set, place::slots_of(&file[..n])),
     }
 }

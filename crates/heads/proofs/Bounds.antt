@@ -2,7 +2,7 @@
 use mathlib.Core.Bool.{Bool, true, false, _&&_}
 use mathlib.Core.Path.{_≡_, refl, sym, _∙_, ap}
 use mathlib.Core.List.{List}
-use Prim.Native.Nat.{ℕ, _*_, _/_, _≤_}
+use Prim.Native.Nat.{ℕ, _+_, _*_, _/_, _≤_}
 use native.Mathlib.Nat.{div-le-self, div-le-of-le-mul, mul-le-mul, mul-comm}
 use native.Mathlib.Omega.{arith}
 use borrow.Author.Tests.{leb-true}
@@ -12,7 +12,7 @@ use Rattle.vocabulary.specs.Multiple.{lcm, lcm-le}
 use Rattle.kinds.specs.declared.Key.{Key}
 use Rattle.kinds.specs.declared.Cycle.{Cycle}
 use Rattle.kinds.specs.declared.Spans.{Spans}
-use Rattle.kinds.specs.Limits.{holds, periods}
+use Rattle.kinds.specs.Limits.{holds, periods, after}
 use Rattle.kinds.specs.Tasks.{Tasks}
 use Rattle.kinds.specs.Cycle.{cycle, cycleFits, cycleIs, periodsFit, noCycle, cycleOf}
 use Rattle.kinds.specs.Links.{spansOf, linksIn}
@@ -21,13 +21,17 @@ use Rattle.kinds.proofs.PatternWalk.{HeadingFacts, heading-facts}
 use Rattle.kinds.specs.SoundByTests.{few-tasks}
 use Rattle.heads.specs.declared.Heading as answer
 use Rattle.heads.specs.declared.Heading.the-variants as heading
+use Rattle.heads.specs.declared.Progress.{Progress}
+use Rattle.heads.specs.declared.Reached.{Reached}
+use Rattle.heads.specs.declared.Reached.the-variants as reached
 use Rattle.heads.specs.declared.Opening.{Opening}
 use Rattle.heads.specs.declared.Opening.the-variants as opening
 use Rattle.heads.specs.declared.Middle.{Middle}
 use Rattle.heads.specs.declared.Middle.the-variants as middle
-use Rattle.heads.specs.Tables.{headingAt}
+use Rattle.heads.specs.Tables.{headingAt, PatternTables, progress, PatternRead, patternRead, patternFrom}
 use Rattle.heads.specs.Heads.{openingOf, middleFrom}
 use Rattle.heads.proofs.ReadInRange.{heading-fits, opening-fits, middle-fits}
+use Rattle.heads.proofs.ReadSteps.{pattern-went}
 
 -- a pair's numbers go no farther than a period
 pub spans-low : (e s t : ℕ) {m : Spans} → m ≡ spansOf e s t → (m .first ≤ 6000) × (m .second ≤ 6000)
@@ -59,6 +63,18 @@ links-low n h p {used = used} {x} q f l = by (eqb p 0) q
     by false q =
         let b : n * (h / p) ≤ 1024 * 6000 = mul-le-mul {n₁ = n} {m₁ = h / p} {n₂ = 1024} {m₂ = 6000} (omega (arith, f .room)) (omega (arith, div-le-self h p)) in
         omega arith
+
+-- so do the pairs and the links after one pattern more
+pub pattern-low : (s : List ℕ) (e : ℕ) (t : Tasks) (h i : ℕ) (done : Progress) (u : PatternTables) {o : Reached} {v : PatternTables} {next : Progress}
+    → h ≤ 6000 → patternRead o v ≡ patternFrom s e t h i done u → o ≡ reached.To next → (next .used ≤ 1024) × (next .links ≤ done .links + 6144000)
+pattern-low s e t h i done u {next = next} l a b =
+    let outcome-of : PatternRead → Reached = λ r. r .outcome in
+    let w = pattern-went s e t h i done u (ap outcome-of (sym a) ∙ b) in
+    let far : Progress = progress (w .q) (after (w .x) (w .y)) (done .used + w .c) (done .links + linksIn (w .c) h (w .spans .whole)) in
+    let z : reached.To next ≡ reached.To far = sym b ∙ ap outcome-of (a ∙ w .to) in
+    let y : next ≡ far = cc z in
+    let f = heading-bounds s (done .at) (done .low) (t .count) (done .used) (w .x) (w .y) (w .c) (w .p) refl (w .is) in
+    rw y (omega (arith, f .room), omega (arith, links-low (w .c) h (w .spans .whole) refl f l))
 
 -- counts and cycle that were let through
 pub opening-low : (s : List ℕ) (e n m q : ℕ) {o : Opening} → o ≡ openingOf s → o ≡ opening.Of e n m q → n ≤ 64

@@ -23,7 +23,7 @@ use Rattle.kinds.proofs.Rows.{row-less}
 use Rattle.kinds.proofs.Blank.{Blank}
 use Rattle.kinds.specs.declared.Counts.{Counts}
 use Rattle.heads.specs.declared.Head.the-variants as head
-use Rattle.heads.specs.Tables.{PatternTables, noAttributes, noPatternTables}
+use Rattle.heads.specs.Tables.{PatternTables, noAttributes, noPatternTables, progress}
 use Rattle.heads.specs.Heads.{countsAre, HeadRead, headRead, headFrom, setOf}
 use Rattle.heads.proofs.ReadInRange.{opening-fits, MiddleFits, middle-fits}
 use Rattle.heads.proofs.ReadSteps.{HeadWent, head-went}
@@ -90,7 +90,7 @@ module _ (s : List ℕ) (f : Counts) (at : ℕ) (w : HeadWent s noAttributes noP
 
   patterned : PatternsDone (w .e) t v (w .k) (w .l)
   patterned =
-      patterns-done s (w .e) (w .cy .ticks) t v (w .k) asked (w .k) 0 (w .p₂) noKey 0 0 noPatternTables at (w .l) (omega arith) (walk-from (w .e) t (patternsIn v (w .k))) no-patterns (w .patterned)
+      patterns-done s (w .e) (w .cy .ticks) t v (w .k) asked (w .k) 0 (progress (w .p₂) noKey 0 0) noPatternTables at (w .l) (omega arith) (walk-from (w .e) t (patternsIn v (w .k))) no-patterns (w .patterned)
 
   tested : PatternsTested (w .e) t (patternsIn v (w .k)) (record { fits = true; links = w .l })
   tested = tested-yes (w .e) t (patternsIn v (w .k)) (w .k) (patterned .walking) (omega arith)

@@ -28,7 +28,7 @@ use Rattle.heads.specs.declared.Heading.the-variants as heading
 use Rattle.heads.specs.declared.Opening.the-variants as opening
 use Rattle.heads.specs.declared.Middle.the-variants as middle
 use Rattle.numbers.specs.Numbers.{numberAt, held, gotAt, andThen}
-use Rattle.heads.specs.Tables.{taskFrom, twoAt, onTwoHeading, headingAt}
+use Rattle.heads.specs.Tables.{timesFrom, taskFrom, twoAt, onTwoHeading, headingAt}
 use Rattle.heads.specs.Heads.{openingOf, middleFrom}
 
 -- a test of equal numbers answers alike
@@ -76,7 +76,7 @@ refused-task : {r : Refusal} {t : Task} {q : ℕ} → taskRead.Refused r ≡ tas
 refused-task e = let z : _≡_ {A = ℕ} 0 1 = cc in omega arith
 
 pub task-fits : (s : List ℕ) (p : ℕ) (t : Task) (q : ℕ) → taskFrom s p ≡ taskRead.Task t q → attributesFit t ≡ true
-unfolding taskFrom attributesFit
+unfolding taskFrom timesFrom attributesFit
 task-fits s p t q e =
     let no : (r : Refusal) → taskRead.Refused r ≡ taskRead.Task t q → ⊥ = λ r x. refused-task x in
     let i = went taskRead.Refused (gotAt s p periods (refusal.OutOfLimits p)) _ (taskRead.Task t q) no e in

@@ -23,10 +23,11 @@ use Rattle.kinds.proofs.PatternWalk.{Walking, walk-on, heading-facts}
 use Rattle.kinds.proofs.Rows.{task-row, task-kept, task-there, task-below, heading-row, heading-there, pair-there}
 use Rattle.heads.specs.declared.Outcome.{Outcome}
 use Rattle.heads.specs.declared.Outcome.the-variants as outcome
+use Rattle.heads.specs.declared.Progress.{Progress}
 use Rattle.heads.specs.declared.Linked.the-variants as linked
-use Rattle.heads.specs.Tables.{noAttributes, TasksRead, tasksRead, tasksFrom, PairsRead, pairsFrom, PatternTables, withPattern, PatternsRead, patternsFrom, patternsRead}
+use Rattle.heads.specs.Tables.{noAttributes, TasksRead, tasksRead, tasksFrom, PairsRead, pairsFrom, PatternTables, withPattern, progress, PatternsRead, patternsFrom, patternsRead}
 use Rattle.heads.proofs.ReadInRange.{task-fits, two-fits, heading-fits}
-use Rattle.heads.proofs.ReadSteps.{tasks-went, pairs-went, patterns-went}
+use Rattle.heads.proofs.ReadSteps.{tasks-went, pairs-went, patterns-went, patterns-rest}
 use Rattle.heads.proofs.ReadKeeps.{pairs-kept, pairs-row, PatternsKept, patterns-kept}
 
 -- ---- tasks
@@ -127,16 +128,16 @@ unfolding pairKey
 no-key ps start = refl
 
 module _ (s : List ℕ) (e h : ℕ) (t : Tasks) (w : PatternTables) (n : ℕ) (asked : PatternsAsked t (patternsIn w n) h) where
-  abbrev read : ℕ → ℕ → ℕ → Key → ℕ → ℕ → PatternTables → PatternsRead
-  read k i at low used links u = patternsFrom s e t h k i at low used links u
-
-  pub patterns-done : (k i at : ℕ) (low : Key) (used links : ℕ) (u : PatternTables) (q l : ℕ) → i + k ≡ n → Walking e t (patternsIn w n) i low used links → PatternsRow u i used
-      → read k i at low used links u ≡ patternsRead (linked.At q l) w → PatternsDone e t w n l
+  pub patterns-done : (k i : ℕ) (done : Progress) (u : PatternTables) (q l : ℕ) → i + k ≡ n
+      → Walking e t (patternsIn w n) i (done .low) (done .used) (done .links) → PatternsRow u i (done .used)
+      → patternsFrom s e t h k i done u ≡ patternsRead (linked.At q l) w → PatternsDone e t w n l
   unfolding patternsFrom
-  patterns-done zero i at low used links u q l z walk rows g =
+  patterns-done zero i done u q l z walk rows g =
+      let low : Key = done .low in
+      let used : ℕ = done .used in
       let a : i ≡ n = omega arith in
-      let o : linked.At at links ≡ linked.At q l = ap (λ (x : PatternsRead). x .outcome) g in
-      let b : links ≡ l = cc o in
+      let o : linked.At (done .at) (done .links) ≡ linked.At q l = ap (λ (x : PatternsRead). x .outcome) g in
+      let b : done .links ≡ l = cc o in
       let d : u ≡ w = ap (λ (x : PatternsRead). x .tables) g in
       record {
         last = low;
@@ -144,23 +145,26 @@ module _ (s : List ℕ) (e h : ℕ) (t : Tasks) (w : PatternTables) (n : ℕ) (a
         walking = subst (λ (j : ℕ). Walking e t (patternsIn w n) j low used l) a (subst (Walking e t (patternsIn w n) i low used) b walk);
         rows = subst (λ (j : ℕ). PatternsRow w j used) a (subst (λ (x : PatternTables). PatternsRow x i used) d rows);
       }
-  patterns-done (suc k) i at low used links u q l z walk rows g =
-      let f = patterns-went s e t h k i at low used links u q l (ap (λ (x : PatternsRead). x .outcome) g) in
+  patterns-done (suc k) i done u q l z walk rows g =
+      let f = patterns-went s e t h i done u k q l (ap (λ (x : PatternsRead). x .outcome) g) in
+      let low : Key = done .low in
+      let used : ℕ = done .used in
       let x : ℕ = f .x in
       let y : ℕ = f .y in
       let c : ℕ = f .c in
       let m : Spans = f .spans in
       let v : PatternTables = withPattern u i x y c (f .v) in
-      let made : ℕ = links + linksIn c h (m .whole) in
-      let g′ : read k (i + 1) (f .q) (after x y) (used + c) made v ≡ patternsRead (linked.At q l) w = sym (f .rest) ∙ g in
+      let made : ℕ = done .links + linksIn c h (m .whole) in
+      let next : Progress = progress (f .q) (after x y) (used + c) made in
+      let g′ : patternsFrom s e t h k (i + 1) next v ≡ patternsRead (linked.At q l) w = sym (patterns-rest s e t h i done u k f) ∙ g in
       let kept : PatternsKept v w (i + 1) (used + c) =
       subst (λ (r : PatternsRead). PatternsKept v (r .tables) (i + 1) (used + c)) g′
-      (patterns-kept s e t h k (i + 1) (f .q) (after x y) (used + c) made v q l (ap (λ (r : PatternsRead). r .outcome) g′)) in
+      (patterns-kept s e t h k (i + 1) next v q l (ap (λ (r : PatternsRead). r .outcome) g′)) in
       let b = heading-there (u .headings) i x y c (w .headings) (kept .headings) (omega (arith, rows .headings .long, asked .patterns)) in
       let fx : fromTask (patternsIn w n) i ≡ x = b .from in
       let fy : toTask (patternsIn w n) i ≡ y = b .to in
       let fc : pairCount (patternsIn w n) i ≡ c = b .length in
-      let fit = heading-fits s at low (t .count) used x y c (f .p) (f .is) in
+      let fit = heading-fits s (done .at) low (t .count) used x y c (f .p) (f .is) in
       let fit′ : headingFits (t .count) low (fromTask (patternsIn w n) i) (toTask (patternsIn w n) i) (pairCount (patternsIn w n) i) used ≡ true = rw (fx, fy, fc) fit in
       let room : used + c ≤ 1024 = heading-facts (t .count) low x y c used fit .room in
       let o : pairsFrom s c (f .p) noKey (m .first) (m .second) used (u .pairs) .outcome ≡ outcome.At (f .q) = ap (λ (r : PairsRead). r .outcome) (f .pairs) in
@@ -174,6 +178,6 @@ module _ (s : List ℕ) (e h : ℕ) (t : Tasks) (w : PatternTables) (n : ℕ) (a
         headings = heading-row (u .headings) i x y c 192 (rows .headings);
         pairs = subst (λ (r : PairsRead). Row (r .table) 2048 (2 * (used + c))) (f .pairs) (pairs-row s c (f .p) noKey (m .first) (m .second) used (u .pairs) (f .q) (rows .pairs) o);
       } in
-      patterns-done k (i + 1) (f .q) (after x y) (used + c) made v q l (omega arith)
+      patterns-done k (i + 1) next v q l (omega arith)
       (subst (λ (key : Key). Walking e t (patternsIn w n) (i + 1) key (used + c) made) (ap₂ after fx fy) walk′)
       rows′ g′

@@ -10,9 +10,10 @@ use Rattle.kinds.specs.Tasks.{Tasks, putPair}
 use Rattle.kinds.specs.Links.{linksIn}
 use Rattle.kinds.proofs.Rows.{heading-kept, pair-kept, pair-row}
 use Rattle.heads.specs.declared.Outcome.the-variants as outcome
+use Rattle.heads.specs.declared.Progress.{Progress}
 use Rattle.heads.specs.declared.Linked.the-variants as linked
-use Rattle.heads.specs.Tables.{PairsRead, pairsFrom, PatternTables, withPattern, PatternsRead, patternsFrom}
-use Rattle.heads.proofs.ReadSteps.{pairs-went, patterns-went}
+use Rattle.heads.specs.Tables.{PairsRead, pairsFrom, PatternTables, withPattern, progress, PatternsRead, patternsFrom}
+use Rattle.heads.proofs.ReadSteps.{pairs-went, patterns-went, patterns-rest}
 
 -- ---- pairs
 pub pairs-kept : (s : List ℕ) (k at : ℕ) (low : Key) (la lb j : ℕ) (u : List ℕ) (q : ℕ) → pairsFrom s k at low la lb j u .outcome ≡ outcome.At q → SamePrefix u (pairsFrom s k at low la lb j u .table) (2 * j)
@@ -41,16 +42,18 @@ pub record PatternsKept (u w : PatternTables) (i used : ℕ) : Type 0 where
   pub headings : SamePrefix (u .headings) (w .headings) (3 * i)
   pub pairs : SamePrefix (u .pairs) (w .pairs) (2 * used)
 
-pub patterns-kept : (s : List ℕ) (e : ℕ) (t : Tasks) (h k i at : ℕ) (low : Key) (used links : ℕ) (u : PatternTables) (q l : ℕ)
-    → patternsFrom s e t h k i at low used links u .outcome ≡ linked.At q l → PatternsKept u (patternsFrom s e t h k i at low used links u .tables) i used
+pub patterns-kept : (s : List ℕ) (e : ℕ) (t : Tasks) (h k i : ℕ) (done : Progress) (u : PatternTables) (q l : ℕ)
+    → patternsFrom s e t h k i done u .outcome ≡ linked.At q l → PatternsKept u (patternsFrom s e t h k i done u .tables) i (done .used)
 unfolding patternsFrom
-patterns-kept s e t h zero i at low used links u q l g = record { headings = kept-self (u .headings) (3 * i); pairs = kept-self (u .pairs) (2 * used) }
-patterns-kept s e t h (suc k) i at low used links u q l g =
-    let w = patterns-went s e t h k i at low used links u q l g in
+patterns-kept s e t h zero i done u q l g = record { headings = kept-self (u .headings) (3 * i); pairs = kept-self (u .pairs) (2 * done .used) }
+patterns-kept s e t h (suc k) i done u q l g =
+    let w = patterns-went s e t h i done u k q l g in
+    let rest = patterns-rest s e t h i done u k w in
+    let used : ℕ = done .used in
     let v : PatternTables = withPattern u i (w .x) (w .y) (w .c) (w .v) in
-    let made : ℕ = links + linksIn (w .c) h (w .spans .whole) in
-    let r : PatternsRead = patternsFrom s e t h k (i + 1) (w .q) (after (w .x) (w .y)) (used + w .c) made v in
-    let p = patterns-kept s e t h k (i + 1) (w .q) (after (w .x) (w .y)) (used + w .c) made v q l (ap (λ (x : PatternsRead). x .outcome) (sym (w .rest)) ∙ g) in
+    let next : Progress = progress (w .q) (after (w .x) (w .y)) (used + w .c) (done .links + linksIn (w .c) h (w .spans .whole)) in
+    let r : PatternsRead = patternsFrom s e t h k (i + 1) next v in
+    let p = patterns-kept s e t h k (i + 1) next v q l (ap (λ (x : PatternsRead). x .outcome) (sym rest) ∙ g) in
     let b : SamePrefix (u .pairs) (w .v) (2 * used) =
     subst (λ (x : PairsRead). SamePrefix (u .pairs) (x .table) (2 * used)) (w .pairs)
     (pairs-kept s (w .c) (w .p) noKey (w .spans .first) (w .spans .second) used (u .pairs) (w .q) (ap (λ (x : PairsRead). x .outcome) (w .pairs))) in
@@ -59,4 +62,4 @@ patterns-kept s e t h (suc k) i at low used links u q l g =
       headings = heading-kept (u .headings) i (w .x) (w .y) (w .c) (r .tables .headings) (p .headings);
       pairs = kept-on (u .pairs) (w .v) (r .tables .pairs) (2 * used) (2 * (used + w .c)) (omega arith) b (p .pairs);
     } in
-    subst (λ (x : PatternsRead). PatternsKept u (x .tables) i used) (sym (w .rest)) f
+    subst (λ (x : PatternsRead). PatternsKept u (x .tables) i used) (sym rest) f

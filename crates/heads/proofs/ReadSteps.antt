@@ -21,6 +21,9 @@ use Rattle.heads.specs.declared.Heading.{Heading}
 use Rattle.heads.specs.declared.Heading.the-variants as heading
 use Rattle.heads.specs.declared.Outcome.{Outcome}
 use Rattle.heads.specs.declared.Outcome.the-variants as outcome
+use Rattle.heads.specs.declared.Progress.{Progress}
+use Rattle.heads.specs.declared.Reached.{Reached}
+use Rattle.heads.specs.declared.Reached.the-variants as reached
 use Rattle.heads.specs.declared.Linked.{Linked}
 use Rattle.heads.specs.declared.Linked.the-variants as linked
 use Rattle.heads.specs.declared.Opening.{Opening}
@@ -30,11 +33,16 @@ use Rattle.heads.specs.declared.Middle.the-variants as middle
 use Rattle.kinds.specs.declared.Counts.{Counts}
 use Rattle.kinds.specs.declared.Cycle.{Cycle}
 use Rattle.heads.specs.declared.Head.the-variants as head
-use Rattle.heads.specs.Tables.{taskFrom, TasksRead, onTask, tasksFrom, tasksRead, twoAt, PairsRead, onTwo, pairsFrom, pairsRead, PatternTables, headingAt, withPattern, PatternsRead, onHeading, onPairs, patternsFrom, patternsRead}
+use Rattle.heads.specs.Tables.{taskFrom, TasksRead, onTask, tasksFrom, tasksRead, twoAt, PairsRead, onTwo, pairsFrom, pairsRead, PatternTables, headingAt}
+use Rattle.heads.specs.Tables.{withPattern, progress, PatternRead, patternRead, onHeading, onPairs, patternFrom}
+use Rattle.heads.specs.Tables.{PatternsRead, patternsRead, onPattern, patternsFrom}
 use Rattle.heads.specs.Heads.{countsAre, patternsAfter, openingOf, middleFrom, headRead, onOpening, onTasks, onMiddle, onPatterns, headFrom}
 
 pub refused-at : {r : Refusal} {q : ℕ} → outcome.Refused r ≡ outcome.At q → ⊥
 refused-at e = let z : _≡_ {A = ℕ} 0 1 = cc in omega arith
+
+refused-to : {r : Refusal} {next : Progress} → reached.Refused r ≡ reached.To next → ⊥
+refused-to e = let z : _≡_ {A = ℕ} 0 1 = cc in omega arith
 
 refused-linked : {r : Refusal} {q l : ℕ} → linked.Refused r ≡ linked.At q l → ⊥
 refused-linked e = let z : _≡_ {A = ℕ} 0 1 = cc in omega arith
@@ -74,7 +82,7 @@ pairs-went s k at low la lb j u q e = by (twoAt s at low la lb false) refl e
     by (two.Refused r) h o = absurd (refused-at o)
 
 -- ---- a pattern
-pub record PatternsWent (s : List ℕ) (e : ℕ) (t : Tasks) (h k i at : ℕ) (low : Key) (used links : ℕ) (u : PatternTables) : Type 0 where
+pub record PatternWent (s : List ℕ) (e : ℕ) (t : Tasks) (h i : ℕ) (done : Progress) (u : PatternTables) : Type 0 where
   pub x : ℕ
   pub y : ℕ
   pub c : ℕ
@@ -82,39 +90,61 @@ pub record PatternsWent (s : List ℕ) (e : ℕ) (t : Tasks) (h k i at : ℕ) (l
   pub q : ℕ
   pub spans : Spans
   pub v : List ℕ
-  pub is : headingAt s at low (t .count) used ≡ heading.Of x y c p
+  pub is : headingAt s (done .at) (done .low) (t .count) (done .used) ≡ heading.Of x y c p
   pub spans-are : spans ≡ spansOf e (period t x) (period t y)
-  pub pairs : pairsFrom s c p noKey (spans .first) (spans .second) used (u .pairs) ≡ pairsRead (outcome.At q) v
-  pub rest : patternsFrom s e t h (suc k) i at low used links u
-      ≡ patternsFrom s e t h k (i + 1) q (after x y) (used + c) (links + linksIn c h (spans .whole)) (withPattern u i x y c v)
+  pub pairs : pairsFrom s c p noKey (spans .first) (spans .second) (done .used) (u .pairs) ≡ pairsRead (outcome.At q) v
+  pub to : patternFrom s e t h i done u
+      ≡ patternRead (reached.To (progress q (after x y) (done .used + c) (done .links + linksIn c h (spans .whole)))) (withPattern u i x y c v)
 
-module _ (s : List ℕ) (e : ℕ) (t : Tasks) (h k i at : ℕ) (low : Key) (used links : ℕ) (u : PatternTables) where
-  abbrev after-pairs : ℕ → ℕ → ℕ → Spans → PairsRead → PatternsRead
+module _ (s : List ℕ) (e : ℕ) (t : Tasks) (h i : ℕ) (done : Progress) (u : PatternTables) where
+  abbrev after-pairs : ℕ → ℕ → ℕ → Spans → PairsRead → PatternRead
   after-pairs x y c m r =
       onPairs (r .outcome) (withPattern u i x y c (r .table)) λ q.
-      patternsFrom s e t h k (i + 1) q (after x y) (used + c) (links + linksIn c h (m .whole)) (withPattern u i x y c (r .table))
+      progress q (after x y) (done .used + c) (done .links + linksIn c h (m .whole))
 
-  abbrev after-heading : ℕ → ℕ → ℕ → ℕ → PatternsRead
+  abbrev after-heading : ℕ → ℕ → ℕ → ℕ → PatternRead
   after-heading x y c p =
       let m : Spans = spansOf e (period t x) (period t y) in
-      after-pairs x y c m (pairsFrom s c p noKey (m .first) (m .second) used (u .pairs))
+      after-pairs x y c m (pairsFrom s c p noKey (m .first) (m .second) (done .used) (u .pairs))
 
-  pub patterns-went : (q l : ℕ) → patternsFrom s e t h (suc k) i at low used links u .outcome ≡ linked.At q l → PatternsWent s e t h k i at low used links u
-  unfolding patternsFrom onHeading onPairs
-  patterns-went q l g = by (headingAt s at low (t .count) used) refl g
+  pub pattern-went : {next : Progress} → patternFrom s e t h i done u .outcome ≡ reached.To next → PatternWent s e t h i done u
+  unfolding patternFrom onHeading onPairs
+  pattern-went {next} g = by (headingAt s (done .at) (done .low) (t .count) (done .used)) refl g
     where
-      pairs-by : (x y c p : ℕ) → headingAt s at low (t .count) used ≡ heading.Of x y c p → (m : Spans) → spansOf e (period t x) (period t y) ≡ m
-          → (o : Outcome) (v : List ℕ) → pairsFrom s c p noKey (m .first) (m .second) used (u .pairs) ≡ pairsRead o v → after-pairs x y c m (pairsRead o v) .outcome ≡ linked.At q l → PatternsWent s e t h k i at low used links u
+      pairs-by : (x y c p : ℕ) → headingAt s (done .at) (done .low) (t .count) (done .used) ≡ heading.Of x y c p
+          → (m : Spans) → spansOf e (period t x) (period t y) ≡ m
+          → (o : Outcome) (v : List ℕ) → pairsFrom s c p noKey (m .first) (m .second) (done .used) (u .pairs) ≡ pairsRead o v
+          → after-pairs x y c m (pairsRead o v) .outcome ≡ reached.To next → PatternWent s e t h i done u
       pairs-by x y c p a m b (outcome.At z) v d o =
-          record { x = x; y = y; c = c; p = p; q = z; spans = m; v = v; is = a; spans-are = sym b; pairs = d; rest = rw (a, b, d) }
-      pairs-by x y c p a m b (outcome.Refused r) v d o = absurd (refused-linked o)
+          record { x = x; y = y; c = c; p = p; q = z; spans = m; v = v; is = a; spans-are = sym b; pairs = d; to = rw (a, b, d) }
+      pairs-by x y c p a m b (outcome.Refused r) v d o = absurd (refused-to o)
 
-      by : (r : Heading) → headingAt s at low (t .count) used ≡ r → onHeading r u after-heading .outcome ≡ linked.At q l → PatternsWent s e t h k i at low used links u
+      by : (r : Heading) → headingAt s (done .at) (done .low) (t .count) (done .used) ≡ r
+          → onHeading r u after-heading .outcome ≡ reached.To next → PatternWent s e t h i done u
       by (heading.Of x y c p) a o =
           let m : Spans = spansOf e (period t x) (period t y) in
-          let r : PairsRead = pairsFrom s c p noKey (m .first) (m .second) used (u .pairs) in
+          let r : PairsRead = pairsFrom s c p noKey (m .first) (m .second) (done .used) (u .pairs) in
           pairs-by x y c p a m refl (r .outcome) (r .table) refl o
-      by (heading.Refused r) a o = absurd (refused-linked o)
+      by (heading.Refused r) a o = absurd (refused-to o)
+
+  -- ---- and those after it
+  pub patterns-went : (k q l : ℕ) → patternsFrom s e t h (suc k) i done u .outcome ≡ linked.At q l → PatternWent s e t h i done u
+  unfolding patternsFrom onPattern
+  patterns-went k q l g = by (patternFrom s e t h i done u .outcome) refl g
+    where
+      w : PatternTables
+      w = patternFrom s e t h i done u .tables
+
+      by : (r : Reached) → patternFrom s e t h i done u .outcome ≡ r → onPattern r w (λ next. patternsFrom s e t h k (i + 1) next w) .outcome ≡ linked.At q l
+          → PatternWent s e t h i done u
+      by (reached.To next) a o = pattern-went a
+      by (reached.Refused r) a o = absurd (refused-linked o)
+
+  pub patterns-rest : (k : ℕ) (w : PatternWent s e t h i done u) → patternsFrom s e t h (suc k) i done u
+      ≡ patternsFrom s e t h k (i + 1) (progress (w .q) (after (w .x) (w .y)) (done .used + w .c) (done .links + linksIn (w .c) h (w .spans .whole)))
+      (withPattern u i (w .x) (w .y) (w .c) (w .v))
+  unfolding patternsFrom onPattern
+  patterns-rest k w = rw (w .to)
 
 -- ---- the head
 pub record HeadWent (s : List ℕ) (t : List ℕ) (v : PatternTables) (f : Counts) (at : ℕ) : Type 0 where

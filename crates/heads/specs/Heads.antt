@@ -1,9 +1,10 @@
--- The head of a plan file, "In order: edition (1); task count; m; per task T, C, O, D; pattern count; per pattern from-task, to-task, pair count, pairs".
+-- Rule R5.3: the head of a plan file, from its edition to its last pair.
 use mathlib.Core.List.{List}
 use Prim.Native.Nat.{ℕ}
 use lib.Dec.{leb}
 use Rattle.vocabulary.specs.Test.{pick}
 use Rattle.kinds.specs.declared.TaskSet.{TaskSet}
+use Rattle.kinds.specs.Build.{inTables}
 use Rattle.kinds.specs.Limits.{editions, taskCounts, processorCounts, patternCounts, mostLinks, noKey}
 use Rattle.kinds.specs.Tasks.{Tasks, tasksOf}
 use Rattle.kinds.specs.declared.Counts.{Counts}
@@ -16,14 +17,15 @@ use Rattle.heads.specs.declared.Opening.{Opening}
 use Rattle.heads.specs.declared.Opening.the-variants as opening
 use Rattle.heads.specs.declared.Middle.{Middle}
 use Rattle.heads.specs.declared.Middle.the-variants as middle
+use Rattle.heads.specs.declared.Progress.{Progress}
 use Rattle.heads.specs.declared.Linked.{Linked}
 use Rattle.heads.specs.declared.Linked.the-variants as linked
 use Rattle.heads.specs.declared.Head.{Head}
 use Rattle.heads.specs.declared.Head.the-variants as head
 use Rattle.numbers.specs.Numbers.{gotAt, andThen}
-use Rattle.heads.specs.Tables.{TasksRead, PatternTables, PatternsRead, tasksFrom, patternsFrom}
+use Rattle.heads.specs.Tables.{TasksRead, PatternTables, PatternRead, PatternsRead, tasksFrom, progress, patternFrom, patternsFrom}
 
--- edition, task count and m: 3 and 4
+-- edition, task count and m: 3 and 4 (rules R6.3, R6.4)
 unfoldable pub openingOf : List ℕ → Opening
 openingOf s =
     andThen opening.Refused (gotAt s 0 editions refusal.UnknownEdition) λ e p₁.
@@ -31,7 +33,7 @@ openingOf s =
     andThen opening.Refused (gotAt s p₂ processorCounts (refusal.OutOfLimits p₂)) λ m p₃.
     opening.Of e n m p₃
 
--- after the tasks t, "5 .. before anything behind" its place; then the pattern count
+-- after the tasks t rules R6.5 and R6.12: 5 before anything behind; then the pattern count
 unfoldable pub middleFrom : List ℕ → ℕ → Tasks → Middle
 middleFrom s at t =
     pick (cycleFits t)
@@ -59,7 +61,7 @@ unfoldable pub onMiddle : Middle → List ℕ → PatternTables → (Cycle → �
 onMiddle (middle.Of c k p) t v f = f c k p
 onMiddle (middle.Refused r) t v f = headRead (head.Refused r) t v
 
--- "9 .. before anything behind" its place: over 4,096 links, after the last pattern
+-- Rules R6.7 and R6.12: after the last pattern 9, for too many links, before anything behind
 unfoldable pub onPatterns : Linked → List ℕ → PatternTables → Counts → HeadRead
 onPatterns (linked.At p l) t v f = headRead (pick (leb l mostLinks) (head.Of f p) (head.Refused (refusal.TooManyLinks p))) t v
 onPatterns (linked.Refused r) t v f = headRead (head.Refused r) t v
@@ -68,9 +70,12 @@ onPatterns (linked.Refused r) t v f = headRead (head.Refused r) t v
 abbrev pub countsAre : ℕ → ℕ → ℕ → ℕ → Cycle → Counts
 countsAre e m n k c = record { edition = e; processors = m; tasks = n; patterns = k; ticks = c .ticks; jobs = c .jobs }
 
--- its patterns, where the tasks stand in a table
+-- one of its patterns, and all, where the tasks stand in a table
+abbrev pub patternAfter : List ℕ → Progress → ℕ → Counts → List ℕ → PatternTables → PatternRead
+patternAfter s done i f t v = patternFrom s (f .edition) (tasksOf (f .tasks) t) (f .ticks) i done v
+
 abbrev pub patternsAfter : List ℕ → ℕ → Counts → List ℕ → PatternTables → PatternsRead
-patternsAfter s at f t v = patternsFrom s (f .edition) (tasksOf (f .tasks) t) (f .ticks) (f .patterns) 0 at noKey 0 0 v
+patternsAfter s at f t v = patternsFrom s (f .edition) (tasksOf (f .tasks) t) (f .ticks) (f .patterns) 0 (progress at noKey 0 0) v
 
 unfoldable pub headFrom : List ℕ → List ℕ → PatternTables → HeadRead
 headFrom s t v =
@@ -83,13 +88,4 @@ headFrom s t v =
 
 -- ---- the set of a head: its numbers and its tables
 abbrev pub setOf : Counts → List ℕ → PatternTables → TaskSet
-setOf f t v =
-    record {
-      edition = f .edition;
-      processors = f .processors;
-      tasks = f .tasks;
-      attributes = t;
-      patterns = f .patterns;
-      headings = v .headings;
-      pairs = v .pairs;
-    }
+setOf f t v = inTables f t (v .headings) (v .pairs)

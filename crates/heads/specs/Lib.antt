@@ -1,3 +1,4 @@
 pub mod Tables
 pub mod Heads
 pub mod LoopSteps
+pub mod Answers

@@ -13,13 +13,17 @@ use Rattle.kinds.specs.Tasks.{Tasks, tasksOf, period, putTask, putPair}
 use Rattle.kinds.specs.Links.{spansOf, linksIn}
 use Rattle.numbers.specs.declared.Refusal.{Refusal}
 use Rattle.numbers.specs.declared.Refusal.the-variants as refusal
+use Rattle.heads.specs.declared.Heading.{Heading}
 use Rattle.heads.specs.declared.Heading.the-variants as heading
 use Rattle.heads.specs.declared.Outcome.{Outcome}
 use Rattle.heads.specs.declared.Outcome.the-variants as outcome
+use Rattle.heads.specs.declared.Progress.{Progress}
+use Rattle.heads.specs.declared.Reached.{Reached}
+use Rattle.heads.specs.declared.Reached.the-variants as reached
 use Rattle.heads.specs.declared.Linked.{Linked}
 use Rattle.heads.specs.declared.Linked.the-variants as linked
 use Rattle.heads.specs.Tables.{taskFrom, onTask, tasksFrom, tasksRead, twoAt, onTwo, pairsFrom, pairsRead, PatternTables, headingAt}
-use Rattle.heads.specs.Tables.{withPattern, onHeading, onPairs, patternsFrom, patternsRead}
+use Rattle.heads.specs.Tables.{withPattern, progress, patternRead, onHeading, onPairs, patternFrom, patternsRead, onPattern, patternsFrom}
 use Rattle.heads.specs.declared.Opening.{Opening}
 use Rattle.heads.specs.declared.Opening.the-variants as opening
 use Rattle.heads.specs.declared.Middle.{Middle}
@@ -57,32 +61,40 @@ pub pairs-none : (s : List ℕ) (n at : ℕ) (low : Key) (la lb j : ℕ) (u : Li
 unfolding pairsFrom
 pairs-none s n at low la lb j u h = rw (none n j h)
 
--- ---- patterns: the heading is refused; its pairs are; neither is
-pub patterns-refused : (s : List ℕ) (e : ℕ) (t : Tasks) (h n i at : ℕ) (low : Key) (used links : ℕ) (u : PatternTables) {r : Refusal}
-    → i < n → headingAt s at low (t .count) used ≡ heading.Refused r
-    → patternsFrom s e t h (n - i) i at low used links u ≡ patternsRead (linked.Refused r) u
-unfolding patternsFrom onHeading
-patterns-refused s e t h n i at low used links u l a = rw (left n i l, a)
+-- ---- a pattern: its heading is refused; its pairs are; neither is
+module _ (s : List ℕ) (e : ℕ) (t : Tasks) (h i : ℕ) (done : Progress) (u : PatternTables) where
+  pub pattern-refused : {o : Heading} {r : Refusal} → o ≡ headingAt s (done .at) (done .low) (t .count) (done .used) → o ≡ heading.Refused r
+      → patternRead (reached.Refused r) u ≡ patternFrom s e t h i done u
+  unfolding patternFrom onHeading
+  pattern-refused a b = rw (← a, b)
 
-pub patterns-stop : (s : List ℕ) (e : ℕ) (t : Tasks) (h n i at : ℕ) (low : Key) (used links : ℕ) (u : PatternTables) {x y c p : ℕ} {r : Refusal} {m : Spans} {v : List ℕ} {o : Outcome}
-    → i < n → headingAt s at low (t .count) used ≡ heading.Of x y c p → m ≡ spansOf e (period t x) (period t y)
-    → pairsRead o v ≡ pairsFrom s c p noKey (m .first) (m .second) used (u .pairs) → o ≡ outcome.Refused r
-    → patternsFrom s e t h (n - i) i at low used links u ≡ patternsRead (linked.Refused r) (withPattern u i x y c v)
-unfolding patternsFrom onHeading onPairs
-patterns-stop s e t h n i at low used links u l a b d o = rw (left n i l, a, ← b, ← d, o)
+  module _ {g : Heading} {x y c p : ℕ} {m : Spans} {o : Outcome} {v : List ℕ} (a : g ≡ headingAt s (done .at) (done .low) (t .count) (done .used))
+      (b : g ≡ heading.Of x y c p) (d : m ≡ spansOf e (period t x) (period t y))
+      (f : pairsRead o v ≡ pairsFrom s c p noKey (m .first) (m .second) (done .used) (u .pairs)) where
+    pub pattern-stop : {r : Refusal} → o ≡ outcome.Refused r → patternRead (reached.Refused r) (withPattern u i x y c v) ≡ patternFrom s e t h i done u
+    unfolding patternFrom onHeading onPairs
+    pattern-stop z = rw (← a, b, ← d, ← f, z)
 
-pub patterns-turn : (s : List ℕ) (e : ℕ) (t : Tasks) (h n i at : ℕ) (low : Key) (used links : ℕ) (u : PatternTables) {x y c p q : ℕ} {m : Spans} {v : List ℕ} {o : Outcome}
-    → i < n → headingAt s at low (t .count) used ≡ heading.Of x y c p → m ≡ spansOf e (period t x) (period t y)
-    → pairsRead o v ≡ pairsFrom s c p noKey (m .first) (m .second) used (u .pairs) → o ≡ outcome.At q
-    → patternsFrom s e t h (n - i) i at low used links u
-    ≡ patternsFrom s e t h (n - (i + 1)) (i + 1) q (after x y) (used + c) (links + linksIn c h (m .whole)) (withPattern u i x y c v)
-unfolding patternsFrom onHeading onPairs
-patterns-turn s e t h n i at low used links u l a b d o = rw (left n i l, a, ← b, ← d, o)
+    pub pattern-on : {q l : ℕ} → o ≡ outcome.At q → l ≡ linksIn c h (m .whole)
+        → patternRead (reached.To (progress q (after x y) (done .used + c) (done .links + l))) (withPattern u i x y c v) ≡ patternFrom s e t h i done u
+    unfolding patternFrom onHeading onPairs
+    pattern-on z l = rw (← a, b, ← d, ← f, z, l)
 
-pub patterns-none : (s : List ℕ) (e : ℕ) (t : Tasks) (h n i at : ℕ) (low : Key) (used links : ℕ) (u : PatternTables)
-    → n ≤ i → patternsFrom s e t h (n - i) i at low used links u ≡ patternsRead (linked.At at links) u
-unfolding patternsFrom
-patterns-none s e t h n i at low used links u l = rw (none n i l)
+-- ---- patterns: one is refused; one is read; there is none left
+module _ (s : List ℕ) (e : ℕ) (t : Tasks) (h n i : ℕ) (done : Progress) (u : PatternTables) where
+  pub patterns-stop : {o : Reached} {v : PatternTables} {r : Refusal} → i < n → patternRead o v ≡ patternFrom s e t h i done u → o ≡ reached.Refused r
+      → patternsFrom s e t h (n - i) i done u ≡ patternsRead (linked.Refused r) v
+  unfolding patternsFrom onPattern
+  patterns-stop l a b = rw (left n i l, ← a, b)
+
+  pub patterns-turn : {o : Reached} {v : PatternTables} {next : Progress} → i < n → patternRead o v ≡ patternFrom s e t h i done u → o ≡ reached.To next
+      → patternsFrom s e t h (n - i) i done u ≡ patternsFrom s e t h (n - (i + 1)) (i + 1) next v
+  unfolding patternsFrom onPattern
+  patterns-turn l a b = rw (left n i l, ← a, b)
+
+  pub patterns-none : n ≤ i → patternsFrom s e t h (n - i) i done u ≡ patternsRead (linked.At (done .at) (done .links)) u
+  unfolding patternsFrom
+  patterns-none l = rw (none n i l)
 
 -- ---- the head
 -- what a head answers where its patterns were read

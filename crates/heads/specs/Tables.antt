@@ -8,7 +8,7 @@ use Rattle.vocabulary.specs.Test.{pick}
 use Rattle.kinds.specs.declared.Key.{Key}
 use Rattle.kinds.specs.declared.Spans.{Spans}
 use Rattle.kinds.specs.declared.Task.{Task}
-use Rattle.kinds.specs.Limits.{range, periods, runnings, offsets, deadlines, mostPairs, noKey, after, firstRange, secondRange}
+use Rattle.kinds.specs.Limits.{range, periods, runnings, offsets, deadlines, fewestPairs, mostPairs, noKey, after, firstRange, secondRange}
 use Rattle.kinds.specs.Tasks.{Tasks, taskOf, period, putTask, putHeading, putPair}
 use Rattle.kinds.specs.Links.{spansOf, linksIn}
 use Rattle.numbers.specs.declared.Refusal.the-variants as refusal
@@ -20,19 +20,26 @@ use Rattle.heads.specs.declared.Heading.{Heading}
 use Rattle.heads.specs.declared.Heading.the-variants as heading
 use Rattle.heads.specs.declared.Outcome.{Outcome}
 use Rattle.heads.specs.declared.Outcome.the-variants as outcome
+use Rattle.heads.specs.declared.Progress.{Progress}
+use Rattle.heads.specs.declared.Reached.{Reached}
+use Rattle.heads.specs.declared.Reached.the-variants as reached
 use Rattle.heads.specs.declared.Linked.{Linked}
 use Rattle.heads.specs.declared.Linked.the-variants as linked
 use Rattle.numbers.specs.Numbers.{gotAt, andThen}
 
 -- ---- tasks
--- "per task T, C, O, D"; "C is tested against T when read (1 ≤ C ≤ T), O against T, D against C and T."
+-- Rule R6.13: of a task T, C, O and D, each held to its range as soon as it is read. O and D, where T and C are read:
+unfoldable pub timesFrom : List ℕ → ℕ → ℕ → ℕ → TaskRead
+timesFrom s p t c =
+    andThen taskRead.Refused (gotAt s p (offsets t) (refusal.OutOfLimits p)) λ o p₁.
+    andThen taskRead.Refused (gotAt s p₁ (deadlines t c) (refusal.OutOfLimits p₁)) λ d p₂.
+    taskRead.Task (taskOf t c o d) p₂
+
 unfoldable pub taskFrom : List ℕ → ℕ → TaskRead
 taskFrom s p =
     andThen taskRead.Refused (gotAt s p periods (refusal.OutOfLimits p)) λ t p₁.
     andThen taskRead.Refused (gotAt s p₁ (runnings t) (refusal.OutOfLimits p₁)) λ c p₂.
-    andThen taskRead.Refused (gotAt s p₂ (offsets t) (refusal.OutOfLimits p₂)) λ o p₃.
-    andThen taskRead.Refused (gotAt s p₃ (deadlines t c) (refusal.OutOfLimits p₃)) λ d p₄.
-    taskRead.Task (taskOf t c o d) p₄
+    timesFrom s p₂ t c
 
 abbrev pub noAttributes : List ℕ
 noAttributes = replicate 256 0
@@ -55,8 +62,8 @@ tasksFrom s zero i at u = tasksRead (outcome.At at) u
 tasksFrom s (suc k) i at u = onTask (taskFrom s at) u λ t next. tasksFrom s k (i + 1) next (putTask u i t)
 
 -- ---- two numbers in order
--- "Order faults of patterns lie at the to-task when the from-tasks are equal, else at the from-task; of pairs at b when the first numbers are equal,
--- else at a." "from = to, a fault at the to-task".
+-- Rule R6.14: a number that is out of order is refused at its own place, the second where the first is that of the two before; that two tasks are one is
+-- refused at the second.
 unfoldable pub twoAt : List ℕ → ℕ → Key → ℕ → ℕ → Bool → Two
 twoAt s p low limitA limitB apart =
     andThen two.Refused (gotAt s p (firstRange low limitA) (refusal.Disordered p)) λ x p₁.
@@ -83,8 +90,8 @@ pairsFrom s (suc k) at low limitA limitB j u =
     pairsFrom s k next (after x y) limitA limitB (j + 1) (putPair u j x y)
 
 -- ---- patterns
--- "per pattern from-task, to-task, pair count": a pair count is 1 at least (6), and carries the total to 1,024 at most (4). No number of a file is
--- over 2,097,151.
+-- Rule R4.8: after the two tasks a pair count, which is 1 at least (6) and carries the total to 1,024 at most (4). No number of a file is over
+-- 2,097,151.
 unfoldable pub onTwoHeading : Two → (ℕ → ℕ → ℕ → Heading) → Heading
 onTwoHeading (two.Both x y next) k = k x y next
 onTwoHeading (two.Refused r) k = heading.Refused r
@@ -92,7 +99,7 @@ onTwoHeading (two.Refused r) k = heading.Refused r
 unfoldable pub headingAt : List ℕ → ℕ → Key → ℕ → ℕ → Heading
 headingAt s at low n used =
     onTwoHeading (twoAt s at low n n true) λ x y p.
-    andThen heading.Refused (gotAt s p (range 1 2097152) (refusal.Disordered p)) λ c q.
+    andThen heading.Refused (gotAt s p (range fewestPairs 2097152) (refusal.Disordered p)) λ c q.
     pick (leb (used + c) mostPairs) (heading.Of x y c q) (heading.Refused (refusal.OutOfLimits p))
 
 pub record PatternTables : Type 0 where
@@ -108,6 +115,35 @@ noPatternTables = patternTables (replicate 192 0) (replicate 2048 0)
 abbrev pub withPattern : PatternTables → ℕ → ℕ → ℕ → ℕ → List ℕ → PatternTables
 withPattern u i x y n ps = patternTables (putHeading (u .headings) i x y n) ps
 
+-- how far the patterns are read: the place after them, the lowest two tasks that may come next, the pairs and the links so far
+abbrev pub progress : ℕ → Key → ℕ → ℕ → Progress
+progress at low used links = record { at = at; low = low; used = used; links = links }
+
+-- what reading one pattern answers, and the tables that it leaves
+pub record PatternRead : Type 0 where
+  pub outcome : Reached
+  pub tables : PatternTables
+
+abbrev pub patternRead : Reached → PatternTables → PatternRead
+patternRead o u = record { outcome = o; tables = u }
+
+unfoldable pub onHeading : Heading → PatternTables → (ℕ → ℕ → ℕ → ℕ → PatternRead) → PatternRead
+onHeading (heading.Of x y n p) u k = k x y n p
+onHeading (heading.Refused r) u k = patternRead (reached.Refused r) u
+
+unfoldable pub onPairs : Outcome → PatternTables → (ℕ → Progress) → PatternRead
+onPairs (outcome.At q) u k = patternRead (reached.To (k q)) u
+onPairs (outcome.Refused r) u k = patternRead (reached.Refused r) u
+
+-- one pattern, after what is done, into the tables u at i: e is the edition, t are the tasks, h is the cycle
+unfoldable pub patternFrom : List ℕ → ℕ → Tasks → ℕ → ℕ → Progress → PatternTables → PatternRead
+patternFrom s e t h i done u =
+    onHeading (headingAt s (done .at) (done .low) (t .count) (done .used)) u λ x y c p.
+    let m : Spans = spansOf e (period t x) (period t y) in
+    let r : PairsRead = pairsFrom s c p noKey (m .first) (m .second) (done .used) (u .pairs) in
+    onPairs (r .outcome) (withPattern u i x y c (r .table)) λ q.
+    progress q (after x y) (done .used + c) (done .links + linksIn c h (m .whole))
+
 pub record PatternsRead : Type 0 where
   pub outcome : Linked
   pub tables : PatternTables
@@ -115,22 +151,13 @@ pub record PatternsRead : Type 0 where
 abbrev pub patternsRead : Linked → PatternTables → PatternsRead
 patternsRead o u = record { outcome = o; tables = u }
 
-unfoldable pub onHeading : Heading → PatternTables → (ℕ → ℕ → ℕ → ℕ → PatternsRead) → PatternsRead
-onHeading (heading.Of x y n p) u k = k x y n p
-onHeading (heading.Refused r) u k = patternsRead (linked.Refused r) u
+unfoldable pub onPattern : Reached → PatternTables → (Progress → PatternsRead) → PatternsRead
+onPattern (reached.To next) u k = k next
+onPattern (reached.Refused r) u k = patternsRead (linked.Refused r) u
 
-unfoldable pub onPairs : Outcome → PatternTables → (ℕ → PatternsRead) → PatternsRead
-onPairs (outcome.At q) u k = k q
-onPairs (outcome.Refused r) u k = patternsRead (linked.Refused r) u
-
--- k patterns more, from a place, into the tables u at i and after: e is the edition, t are the tasks, h is the cycle, used and links are the pairs
--- and the links so far
-unfoldable pub patternsFrom : List ℕ → ℕ → Tasks → ℕ → ℕ → ℕ → ℕ → Key → ℕ → ℕ → PatternTables → PatternsRead
-patternsFrom s e t h zero i at low used links u = patternsRead (linked.At at links) u
-patternsFrom s e t h (suc k) i at low used links u =
-    onHeading (headingAt s at low (t .count) used) u λ x y c p.
-    let m : Spans = spansOf e (period t x) (period t y) in
-    let r : PairsRead = pairsFrom s c p noKey (m .first) (m .second) used (u .pairs) in
-    let v : PatternTables = withPattern u i x y c (r .table) in
-    onPairs (r .outcome) v λ q.
-    patternsFrom s e t h k (i + 1) q (after x y) (used + c) (links + linksIn c h (m .whole)) v
+-- k patterns more, after what is done, into the tables u at i and after
+unfoldable pub patternsFrom : List ℕ → ℕ → Tasks → ℕ → ℕ → ℕ → Progress → PatternTables → PatternsRead
+patternsFrom s e t h zero i done u = patternsRead (linked.At (done .at) (done .links)) u
+patternsFrom s e t h (suc k) i done u =
+    let r : PatternRead = patternFrom s e t h i done u in
+    onPattern (r .outcome) (r .tables) λ next. patternsFrom s e t h k (i + 1) next (r .tables)

@@ -5,8 +5,9 @@ ghost use Prim.Native.Nat.{_+_, _*_, _<_, _≤_};
 ghost use Rattle.kinds.specs.Limits.{noKey};
 ghost use Rattle.kinds.specs.Cycle.{periodsFit};
 ghost use Rattle.kinds.specs.Tasks.{tasksOf, putTask, putHeading, putPair};
-ghost use Rattle.heads.specs.Tables.{taskFrom, tasksFrom, tasksRead, twoAt, pairsFrom, pairsRead, headingAt, patternsRead, patternTables, noAttributes};
-ghost use Rattle.heads.specs.Heads.{patternsAfter, openingOf, middleFrom, headRead, headFrom};
+ghost use Rattle.heads.specs.Tables.{timesFrom, taskFrom, tasksFrom, tasksRead, noAttributes, twoAt, pairsFrom, pairsRead, headingAt};
+ghost use Rattle.heads.specs.Tables.{patternTables, patternRead, patternsRead};
+ghost use Rattle.heads.specs.Heads.{patternAfter, patternsAfter, openingOf, middleFrom, headRead, headFrom};
 ghost use Rattle.heads.specs.LoopSteps.{closing};
 use kinds::Attributes;
 use kinds::Counts;
@@ -14,10 +15,18 @@ use kinds::Cycle;
 use kinds::Headings;
 use kinds::Key;
 use kinds::Pairs;
+use kinds::Pattern;
 use kinds::Task;
 use kinds::TaskSet;
 use numbers::Got;
 use numbers::Refusal;
+
+// The limits of counts, as wide as the numbers of a file.
+const FEWEST_TASKS: u32 = TaskSet::FEWEST_TASKS as u32;
+
+const TASK_LIMIT: u32 = TaskSet::TASK_LIMIT as u32;
+
+const PATTERN_LIMIT: u32 = TaskSet::PATTERN_LIMIT as u32;
 
 pub enum TaskRead {
     Task(Task, usize),
@@ -39,6 +48,20 @@ pub enum Heading {
 // Where reading went on to.
 pub enum Outcome {
     At(usize),
+    Refused(Refusal),
+}
+
+// How far the patterns are read: the place after them, the lowest two tasks that may come next, and the pairs and the links so far.
+pub struct Progress {
+    pub at: usize,
+    pub low: Key,
+    pub used: usize,
+    pub links: u64,
+}
+
+// How far the patterns are read after one more.
+pub enum Reached {
+    To(Progress),
     Refused(Refusal),
 }
 
@@ -65,47 +88,55 @@ pub enum Head {
     Refused(Refusal),
 }
 
-// One task's T, C, O and D.
-fn read_task(file: &[u8], at: usize) -> TaskRead
-    ensures { λ r. ⌜ r ≡ taskFrom (now (file .entry)) at ⌝ }
+// O and D of a task with this T and this C.
+fn read_times(file: &[u8], at: usize, t: u32, c: u32) -> TaskRead
+    requires { ⌜ t ≤ 6000 ⌝ }
+    ensures { λ r. ⌜ r ≡ timesFrom (now (file .entry)) at t c ⌝ }
 {
-    match numbers::read_within(file, at, 1, 6001, Refusal::OutOfLimits(at)) {
+    match numbers::read_within(file, at, 0, t, Refusal::OutOfLimits(at)) {
         Got::Refused(r) => TaskRead::Refused(r),
-        Got::Value(t, p1) => match numbers::read_within(
+        Got::Value(o, p1) => match numbers::read_within(
             file,
             p1,
-            1,
+            c,
             t + 1,
             Refusal::OutOfLimits(p1),
         ) {
             Got::Refused(r) => TaskRead::Refused(r),
-            Got::Value(c, p2) => match numbers::read_within(
-                file,
-                p2,
-                0,
-                t,
-                Refusal::OutOfLimits(p2),
-            ) {
-                Got::Refused(r) => TaskRead::Refused(r),
-                Got::Value(o, p3) => match numbers::read_within(
-                    file,
-                    p3,
-                    c,
-                    t + 1,
-                    Refusal::OutOfLimits(p3),
-                ) {
-                    Got::Refused(r) => TaskRead::Refused(r),
-                    Got::Value(d, p4) => TaskRead::Task(
-                        Task {
-                            period: t,
-                            running: c,
-                            offset: o,
-                            deadline: d,
-                        },
-                        p4,
-                    ),
+            Got::Value(d, p2) => TaskRead::Task(
+                Task {
+                    period: t,
+                    running: c,
+                    offset: o,
+                    deadline: d,
                 },
-            },
+                p2,
+            ),
+        },
+    }
+}
+
+// One task's T, C, O and D.
+fn read_task(file: &[u8], at: usize) -> TaskRead
+    ensures { λ r. ⌜ r ≡ taskFrom (now (file .entry)) at ⌝ }
+{
+    match numbers::read_within(
+        file,
+        at,
+        Task::SHORTEST_PERIOD,
+        Task::PERIOD_LIMIT,
+        Refusal::OutOfLimits(at),
+    ) {
+        Got::Refused(r) => TaskRead::Refused(r),
+        Got::Value(t, p1) => match numbers::read_within(
+            file,
+            p1,
+            Task::LEAST_RUNNING,
+            t + 1,
+            Refusal::OutOfLimits(p1),
+        ) {
+            Got::Refused(r) => TaskRead::Refused(r),
+            Got::Value(c, p2) => read_times(file, p2, t, c),
         },
     }
 }
@@ -238,7 +269,7 @@ fn read_heading(file: &[u8], at: usize, low: Key, tasks: u32, used: usize) -> He
         Two::Both(x, y, p) => match numbers::read_within(
             file,
             p,
-            1,
+            Pattern::FEWEST_PAIRS,
             2097152,
             Refusal::Disordered(p),
         ) {
@@ -258,15 +289,27 @@ fn read_heading(file: &[u8], at: usize, low: Key, tasks: u32, used: usize) -> He
 fn read_opening(file: &[u8]) -> Opening
     ensures { λ r. ⌜ r ≡ openingOf (now (file .entry)) ⌝ }
 {
-    match numbers::read_within(file, 0, 1, 2, Refusal::UnknownEdition) {
+    match numbers::read_within(
+        file,
+        0,
+        TaskSet::EDITION,
+        TaskSet::EDITION_LIMIT,
+        Refusal::UnknownEdition,
+    ) {
         Got::Refused(r) => Opening::Refused(r),
-        Got::Value(e, p1) => match numbers::read_within(file, p1, 1, 65, Refusal::OutOfLimits(p1)) {
+        Got::Value(e, p1) => match numbers::read_within(
+            file,
+            p1,
+            FEWEST_TASKS,
+            TASK_LIMIT,
+            Refusal::OutOfLimits(p1),
+        ) {
             Got::Refused(r) => Opening::Refused(r),
             Got::Value(n, p2) => match numbers::read_within(
                 file,
                 p2,
-                1,
-                9,
+                TaskSet::FEWEST_PROCESSORS,
+                TaskSet::PROCESSOR_LIMIT,
                 Refusal::OutOfLimits(p2),
             ) {
                 Got::Refused(r) => Opening::Refused(r),
@@ -285,9 +328,49 @@ fn read_middle(file: &[u8], at: usize, n: usize, attributes: &Attributes) -> Mid
     if cycle.ticks == 0 {
         return Middle::Refused(Refusal::TooLong(at));
     }
-    match numbers::read_within(file, at, 0, 65, Refusal::OutOfLimits(at)) {
+    match numbers::read_within(file, at, 0, PATTERN_LIMIT, Refusal::OutOfLimits(at)) {
         Got::Refused(r) => Middle::Refused(r),
         Got::Value(k, p) => Middle::Of(cycle, k, p),
+    }
+}
+
+// Pattern i with its pairs, into the two tables that are lent for patterns, after what is done.
+fn read_pattern(
+    file: &[u8],
+    done: Progress,
+    i: usize,
+    f: Counts,
+    attributes: &Attributes,
+    headings: &mut Headings,
+    pairs: &mut Pairs,
+) -> Reached
+    requires { ⌜ (i < 64) × (f .tasks ≤ 64) × (f .ticks ≤ 6000) × (done .used ≤ 1024) × (done .links ≤ 6144000 * i) ⌝ }
+    ensures { λ r. ⌜ patternRead r (patternTables (now (headings .exit)) (now (pairs .exit)))
+        ≡ patternAfter (now (file .entry)) done i f (now (attributes .entry)) (patternTables (now (headings .entry)) (now (pairs .entry))) ⌝ }
+{
+    match read_heading(file, done.at, done.low, f.tasks as u32, done.used) {
+        Heading::Refused(r) => Reached::Refused(r),
+        Heading::Of(x, y, c, p) => {
+            let m = kinds::spans_of(
+                f.edition,
+                attributes[TaskSet::OF_TASK * (x as usize)],
+                attributes[TaskSet::OF_TASK * (y as usize)],
+            );
+            let k = c as usize;
+            put_heading(headings, i, x, y, c);
+            match read_pairs(file, p, k, m.first, m.second, done.used, pairs) {
+                Outcome::Refused(r) => Reached::Refused(r),
+                Outcome::At(q) => Reached::To(Progress {
+                    at: q,
+                    low: Key {
+                        first: x,
+                        second: y + 1,
+                    },
+                    used: done.used + k,
+                    links: done.links + kinds::links_in(c, f.ticks, m.whole),
+                }),
+            }
+        }
     }
 }
 
@@ -304,46 +387,28 @@ fn read_patterns(
     ensures { λ r. ⌜ patternsRead r (patternTables (now (headings .exit)) (now (pairs .exit)))
         ≡ patternsAfter (now (file .entry)) start f (now (attributes .entry)) (patternTables (now (headings .entry)) (now (pairs .entry))) ⌝ }
 {
-    let mut at = start;
-    let mut low = Key {
-        first: 0,
-        second: 0,
+    let mut done = Progress {
+        at: start,
+        low: Key {
+            first: 0,
+            second: 0,
+        },
+        used: 0,
+        links: 0,
     };
-    let mut used: usize = 0;
-    let mut links: u64 = 0;
     let mut i = 0;
     while i < f.patterns {
-        match read_heading(file, at, low, f.tasks as u32, used) {
-            Heading::Refused(r) => {
+        match read_pattern(file, done, i, f, attributes, headings, pairs) {
+            Reached::Refused(r) => {
                 return Linked::Refused(r);
             }
-            Heading::Of(x, y, c, p) => {
-                let m = kinds::spans_of(
-                    f.edition,
-                    attributes[TaskSet::OF_TASK * (x as usize)],
-                    attributes[TaskSet::OF_TASK * (y as usize)],
-                );
-                let k = c as usize;
-                put_heading(headings, i, x, y, c);
-                match read_pairs(file, p, k, m.first, m.second, used, pairs) {
-                    Outcome::Refused(r) => {
-                        return Linked::Refused(r);
-                    }
-                    Outcome::At(q) => {
-                        at = q;
-                        low = Key {
-                            first: x,
-                            second: y + 1,
-                        };
-                        used += k;
-                        links += kinds::links_in(c, f.ticks, m.whole);
-                    }
-                }
+            Reached::To(next) => {
+                done = next;
             }
         }
         i += 1;
     }
-    Linked::At(at, links)
+    Linked::At(done.at, done.links)
 }
 
 // What the head answers, after its patterns.

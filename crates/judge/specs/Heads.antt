@@ -1,5 +1,4 @@
--- The verdict for C: "The C side passes tasks and m as the bytes of a file from the edition to the last pair; bytes that the reader would refuse, or
--- bytes left over, give 10."
+-- The verdict for C, which passes tasks and m as the bytes of a head (rules R12.1, R12.6).
 use mathlib.Core.List.{List}
 use Prim.Native.Nat.{ℕ}
 use Rattle.vocabulary.specs.Test.{pick}

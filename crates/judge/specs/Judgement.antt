@@ -16,7 +16,7 @@ use Rattle.judge.specs.declared.Verdict.{Verdict}
 use Rattle.judge.specs.declared.Verdict.the-variants as verdict
 use Rattle.judge.specs.Rules.{twin, mated, clashes, strays, strayed, miscounts, miscounted, breaks, brokenPair, brokenPattern}
 
--- "Lowest means by task, then job; by tick, then processors; by pattern, pair, k."
+-- Rule R7.6: for each rule the verdict with its lowest evidence.
 unfoldable pub highAt : Tasks → Plan → Verdict
 highAt u p = verdict.BadSlot (least (high (p .slots) (u .count)) (length (p .slots)))
 
@@ -41,7 +41,7 @@ brokenAt u v p =
     let q : ℕ = least (brokenPair u v p k) (pairCount v k) in
     verdict.BrokenLink k q (least (breaks u v p k q) (repeats u v k))
 
--- "Judge: 10, 11, 12, 20, 21, 22, 23, else accepted.": the rules in their order. Those of a plan of the right length for a sound set,
+-- Rule R10.6: the rules in their order. Those of a plan of the right length for a sound set,
 unfoldable pub planRules : Tasks → Patterns → Plan → List (Rule Verdict)
 planRules u v p =
     rule 12 (some (high (p .slots) (u .count)) (length (p .slots))) (highAt u p)

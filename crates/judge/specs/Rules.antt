@@ -10,9 +10,9 @@ use Rattle.kinds.specs.Jobs.{release}
 use Rattle.kinds.specs.Links.{linkFrom, linkTo, repeats}
 use Rattle.kinds.specs.Plans.{Plan, slot, runs, ticks}
 
--- ---- 12: "a slot of a lent plan is above the task count": slots `High.high`, since a step tests it too
+-- ---- 12 (rule R7.5) is slots `High.high`, since a step tests it too
 
--- ---- 20: "a task twice in one tick": processors q < r show the same task at tick t. It is about slots, also where a task still sleeps
+-- ---- 20, rule R10.2: processors q < r show the same task at tick t. It is about slots, also where a task still sleeps
 unfoldable pub twin : Plan → ℕ → ℕ → ℕ → Bool
 twin p t q r = ltb q r && (not (eqb (slot p t q) 0) && eqb (slot p t r) (slot p t q))
 
@@ -22,8 +22,8 @@ mated p t q = some (twin p t q) (p .processors)
 unfoldable pub clashes : Plan → ℕ → Bool
 clashes p t = some (mated p t) (p .processors)
 
--- ---- 21: "a slot outside its task's windows". "the slot tick c offends if (c − O) mod T, taken as 0 to T − 1, is at least D": H is a multiple of T,
--- so that adding it keeps the remainder, and c + H is not below O
+-- ---- 21, rule R10.3: the slot of tick c lies outside its task's windows. What counts is the remainder of c − O by T, from 0 on. H is a multiple of T, so
+-- that adding it keeps the remainder, and c + H is not below O
 unfoldable pub strays : Tasks → Plan → ℕ → ℕ → Bool
 strays u p c q =
     let i : ℕ = slot p c q - 1 in
@@ -32,15 +32,15 @@ strays u p c q =
 unfoldable pub strayed : Tasks → Plan → ℕ → Bool
 strayed u p c = some (strays u p c) (p .processors)
 
--- ---- 22: "a job's ticks in its window aren't C"
+-- ---- 22, rule R10.4: a job gets more or fewer ticks in its window than its C
 unfoldable pub miscounts : Tasks → Plan → ℕ → ℕ → Bool
 miscounts u p i k = not (eqb (ticks u p i k) (running u i))
 
 unfoldable pub miscounted : Tasks → Plan → ℕ → Bool
 miscounted u p i = some (miscounts u p i) (jobsOf u i)
 
--- ---- 23: "a link is broken". "A link is kept when every tick of the first job is earlier than every tick of the second, in true time and not in slot
--- ticks." Tick y past the release of job l of task j is one of that job, and not later than time x
+-- ---- 23, rule R10.5: a link is broken, since some tick of its first job is not earlier than some tick of its second, in true time.
+-- Tick y past the release of job l of task j is one of that job, and not later than time x
 unfoldable pub against : Tasks → Plan → ℕ → ℕ → ℕ → ℕ → Bool
 against u p j l x y = runs u p j (release u j l + y) && leb (release u j l + y) x
 

@@ -1,4 +1,4 @@
-// Rule 22: "a job's ticks in its window aren't C".
+// Rule 22 (R10.4 in docs/RULES.md): a job gets more or fewer ticks in its window than its C.
 ghost use mathlib.Core.Path.{_≡_};
 ghost use Rattle.vocabulary.specs.Least.{least};
 ghost use Rattle.kinds.specs.Cycle.{jobsOf};

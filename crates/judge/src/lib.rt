@@ -176,7 +176,7 @@ pub fn judge_head(tasks: &[u8], plan: &[u8]) -> Verdict
     judge_tables(f, &attributes, &headings, &pairs, plan)
 }
 
-// The number of document 01 for a verdict: 0, 10, 11, 12, or 20 to 23.
+// The number of a verdict: 0, 10, 11, 12, or 20 to 23.
 pub fn number_of(v: Verdict) -> u32
     ensures { λ n. ⌜ n ≡ numberOf v ⌝ }
 {

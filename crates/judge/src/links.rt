@@ -1,4 +1,4 @@
-// Rule 23: "a link is broken".
+// Rule 23 (R10.5 in docs/RULES.md): a link is broken.
 ghost use mathlib.Core.Path.{_≡_};
 ghost use Rattle.vocabulary.specs.Least.{least};
 ghost use Rattle.kinds.specs.Links.{repeats};

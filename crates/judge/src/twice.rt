@@ -1,4 +1,4 @@
-// The evidence of rule 20: "a task twice in one tick".
+// The evidence of rule 20 (R10.2 in docs/RULES.md): a task stands twice in one tick.
 ghost use mathlib.Core.Path.{_≡_};
 ghost use Prim.Native.Nat.{_*_, _<_};
 ghost use Rattle.vocabulary.specs.Least.{least};

@@ -1,11 +1,11 @@
 -- Of a set that the constructors made every entry beyond the counts is 0.
 use mathlib.Core.Path.{_≡_, refl, _∙_}
-use mathlib.Core.Bool.{Bool, true, false}
+use mathlib.Core.Bool.{Bool, true, false, and-false}
 use mathlib.Core.List.{List}
 use Prim.Native.Nat.{ℕ, _+_, _-_, _*_, _<_, _≤_}
 use native.Mathlib.Omega.{arith}
 use lib.Dec.{leb, ltb, eqb}
-use lib.ListN.{length, getD, set, length-set}
+use lib.ListN.{length, getD, set, length-set, List·getD-eq-default}
 use lib.Seq.{getD-set-same, getD-set-other}
 use borrow.Author.Tests.{eqb-false, ltb-false}
 use Rattle.vocabulary.specs.Test.{pick}
@@ -13,8 +13,10 @@ use Rattle.vocabulary.specs.Total.{total-same}
 use Rattle.vocabulary.specs.StopsAndZeros.{zeros-set}
 use Rattle.vocabulary.specs.Keep.{SamePrefix, kept-self, Row, row-none}
 use Rattle.kinds.specs.declared.TaskSet.{TaskSet}
-use Rattle.kinds.specs.Tasks.{taskOf, pairsIn, putHeading, putPair}
-use Rattle.kinds.specs.Build.{noTasks, plusTask, withTask, plusPattern, withPattern, plusPair, withPair}
+use Rattle.kinds.specs.Limits.{holds, editions}
+use Rattle.kinds.specs.Sound.{openingFits, sound}
+use Rattle.kinds.specs.Tasks.{view, taskOf, pairsIn, putHeading, putPair}
+use Rattle.kinds.specs.Build.{noTasks, overfull, plusTask, withTask, plusPattern, withPattern, plusPair, withPair}
 use Rattle.kinds.specs.RangeLaws.{pairs-more}
 use Rattle.kinds.proofs.Rows.{row-less, task-row, heading-row, heading-kept, pair-row}
 
@@ -32,10 +34,22 @@ either : (P : TaskSet → Type 0) (b : Bool) (s t : TaskSet) → P s → (b ≡ 
 either P true s t p q = p
 either P false s t p q = q refl
 
+-- a set that counts a task too many keeps its tables
+past-all : (xs : List ℕ) (n a b : ℕ) → Row xs n a → n ≤ b → Row xs n b
+past-all xs n a b r l = record { long = r .long; beyond = λ i h. List·getD-eq-default xs 0 (omega (arith, r .long)) }
+
+blank-overfull : (s : TaskSet) → Blank s → Blank (overfull s)
+blank-overfull s b = record { attributes = past-all (s .attributes) 256 (4 * s .tasks) 260 (b .attributes) (omega arith); headings = b .headings; pairs = b .pairs }
+
+-- ==== and rule 10 refuses it
+pub overfull-refused : (s : TaskSet) → sound (view (overfull s)) ≡ false
+unfolding sound openingFits holds
+overfull-refused s = rw (and-false (holds editions (s .edition)))
+
 pub blank-task : (s : TaskSet) (t c o d : ℕ) → Blank s → Blank (withTask s t c o d)
 unfolding withTask
 blank-task s t c o d b =
-    either Blank (leb 64 (s .tasks)) s (plusTask s (taskOf t c o d)) b
+    either Blank (leb 64 (s .tasks)) (overfull s) (plusTask s (taskOf t c o d)) (blank-overfull s b)
     (λ e. record { attributes = task-row (s .attributes) (s .tasks) (taskOf t c o d) 256 (b .attributes); headings = b .headings; pairs = b .pairs })
 
 -- The sum over the first n does not see what changes behind them.
@@ -54,7 +68,7 @@ plus-pattern s x y b =
 
 pub blank-pattern : (s : TaskSet) (x y : ℕ) → Blank s → Blank (withPattern s x y)
 unfolding withPattern
-blank-pattern s x y b = either Blank (leb 64 (s .patterns)) s (plusPattern s x y) b (λ e. plus-pattern s x y b)
+blank-pattern s x y b = either Blank (leb 64 (s .patterns)) (overfull s) (plusPattern s x y) (blank-overfull s b) (λ e. plus-pattern s x y b)
 
 -- One pair more in the last pattern is one more in all.
 pairs-plus : (hs : List ℕ) (k : ℕ) → 3 * k + 2 < length hs → pairsIn (set hs (3 * k + 2) (getD hs (3 * k + 2) 0 + 1)) (k + 1) ≡ pairsIn hs (k + 1) + 1
@@ -85,7 +99,9 @@ unfolding withPair
 blank-pair s a c b =
     let n : ℕ = s .patterns in
     let x : ℕ = pairsIn (s .headings) n in
-    either Blank (eqb n 0) s (pick (ltb 64 n) s (pick (leb 1024 x) s (plusPair s (n - 1) x a c))) b
-    (λ e. either Blank (ltb 64 n) s (pick (leb 1024 x) s (plusPair s (n - 1) x a c)) b
-    (λ f. either Blank (leb 1024 x) s (plusPair s (n - 1) x a c) b
+    let o : TaskSet = overfull s in
+    let w : Blank (overfull s) = blank-overfull s b in
+    either Blank (eqb n 0) o (pick (ltb 64 n) o (pick (leb 1024 x) o (plusPair s (n - 1) x a c))) w
+    (λ e. either Blank (ltb 64 n) o (pick (leb 1024 x) o (plusPair s (n - 1) x a c)) w
+    (λ f. either Blank (leb 1024 x) o (plusPair s (n - 1) x a c) w
     (λ g. plus-pair s a c (eqb-false n 0 e) (ltb-false 64 n f) b)))

@@ -1,22 +1,25 @@
 -- The walk over the patterns that tests them and adds up their links: what holds at each pattern, and its steps.
 use mathlib.Core.Path.{_≡_, refl, sym, ap, ap₂, _∙_}
-use mathlib.Core.Bool.{Bool, true, false, not}
+use mathlib.Core.Bool.{Bool, true, false, not, _&&_}
+use mathlib.Core.List.{List}
 use Prim.Native.Nat.{ℕ, _+_, _*_, _/_, _<_, _≤_}
 use native.Mathlib.Nat.{le-trans, div-le-self, mul-le-mul-left, le-antisymm}
 use native.Mathlib.Numerals.{add-one}
 use native.Mathlib.Omega.{arith}
 use lib.Dec.{leb, eqb}
 use borrow.Author.Tests.{leb-true, eqb-false, ne-eqb, not-true}
-use Rattle.vocabulary.specs.Test.{both, clash}
+use Rattle.vocabulary.specs.Test.{pick, both, clash}
 use Rattle.vocabulary.specs.Least.{all, all-fails, Passing, pass-from, pass-on, pass-end}
 use Rattle.vocabulary.specs.Total.{total, total-none, total-more}
 use Rattle.vocabulary.specs.Multiple.{lcm, lcm-pos}
 use Rattle.kinds.specs.declared.Key.{Key}
 use Rattle.kinds.specs.declared.Spans.{Spans}
+use Rattle.kinds.specs.declared.Pattern.{Pattern}
+use Rattle.kinds.specs.declared.Tested.{Tested}
 use Rattle.kinds.specs.Limits.{periods, rises, noKey, after}
-use Rattle.kinds.specs.Tasks.{Tasks, Patterns, period, fromTask, toTask, pairCount, pairsBefore}
+use Rattle.kinds.specs.Tasks.{Tasks, Patterns, period, fromTask, toTask, pairCount, pairsBefore, patternIn, pattern-in}
 use Rattle.kinds.specs.Links.{common, firstReach, reach, repeats, linksOf, links, spansOf, linksIn}
-use Rattle.kinds.specs.Sound.{pairFits, patternKey, headingFits, patternFits, PatternsTested, PatternsAsked}
+use Rattle.kinds.specs.Sound.{pairFits, patternKey, headingFits, patternFits, unfit, patternTested, PatternsTested, PatternsAsked}
 use Rattle.kinds.specs.RangeLaws.{holds-yes, holds-at, pairs-none, pairs-more}
 
 -- ---- one pattern more
@@ -89,7 +92,7 @@ module _ (e : ℕ) (u : Tasks) (v : Patterns) where
       }
 
 module _ (e : ℕ) (u : Tasks) (v : Patterns) (k : ℕ) {low : Key} {used made : ℕ} (w : Walking e u v k low used made) where
-  pub walk-heading : headingFits (u .count) low (fromTask v k) (toTask v k) (pairCount v k) used ≡ false → patternFits e u v k ≡ false
+  walk-heading : headingFits (u .count) low (fromTask v k) (toTask v k) (pairCount v k) used ≡ false → patternFits e u v k ≡ false
   unfolding patternFits
   walk-heading h = rw (← w .key, ← w .before, h)
 
@@ -106,7 +109,7 @@ module _ (e h : ℕ) (u : Tasks) (v : Patterns) (asked : PatternsAsked u v h) (k
       ∙ ap₂ (λ (a b : ℕ). spansOf e (period u a) (period u b)) from to
       ∙ spans-at e (period u (fromTask v k)) (period u (toTask v k)) (asked .periods (fromTask v k) (facts .from-low)) (asked .periods (toTask v k) (facts .to-low))
 
-  pub walk-pairs : (b : Bool) → all (pairFits (v .pairs) used (s .first) (s .second)) n ≡ b → patternFits e u v k ≡ b
+  walk-pairs : (b : Bool) → all (pairFits (v .pairs) used (s .first) (s .second)) n ≡ b → patternFits e u v k ≡ b
   unfolding patternFits
   walk-pairs b p = rw (← w .key, ← w .before, fit) (rw (spans-are, counted) at p)
 
@@ -131,9 +134,81 @@ module _ (e h : ℕ) (u : Tasks) (v : Patterns) (asked : PatternsAsked u v h) (k
         few = omega (arith, w .few, r, f, counted);
       }
 
+-- ---- the tests of one pattern: its heading fails; its pairs do; neither does
+module _ (e : ℕ) (u : Tasks) (h : ℕ) (ps : List ℕ) (low : Key) (used : ℕ) (p : Pattern) where
+  pub one-heading : headingFits (u .count) low (p .from) (p .to) (p .pairs) used ≡ false → unfit ≡ patternTested e u h ps low used p
+  unfolding patternTested
+  one-heading a = rw a
+
+  module _ (a : headingFits (u .count) low (p .from) (p .to) (p .pairs) used ≡ true) {x y n : ℕ} {s : Spans}
+      (from : x ≡ p .from) (to : y ≡ p .to) (spans : s ≡ spansOf e (period u x) (period u y)) (counted : n ≡ p .pairs) where
+    spans-here : s ≡ spansOf e (period u (p .from)) (period u (p .to))
+    spans-here = spans ∙ ap₂ (λ (a b : ℕ). spansOf e (period u a) (period u b)) from to
+
+    pub one-pairs : all (pairFits ps used (s .first) (s .second)) n ≡ false → unfit ≡ patternTested e u h ps low used p
+    unfolding patternTested
+    one-pairs b = rw (a, rw (spans-here, counted) at b)
+
+    pub one-fits : all (pairFits ps used (s .first) (s .second)) n ≡ true → {m : ℕ} → m ≡ linksIn (p .pairs) h (s .whole)
+        → record { fits = true; links = m } ≡ patternTested e u h ps low used p
+    unfolding patternTested
+    one-fits b q = rw (a, rw (spans-here, counted) at b, q, spans-here)
+
+-- what they say of pattern k of the walk
+module _ (e h : ℕ) (u : Tasks) (v : Patterns) (asked : PatternsAsked u v h) (k : ℕ) {low : Key} {used made : ℕ} (w : Walking e u v k low used made)
+    (l : k < v .count) {p : Pattern} (at : p ≡ patternIn (v .headings) k) {r : Tested} (told : r ≡ patternTested e u h (v .pairs) low used p) where
+  abbrev here : Pattern
+  here = record { from = fromTask v k; to = toTask v k; pairs = pairCount v k }
+
+  here-is : p ≡ here
+  here-is = at ∙ pattern-in (v .headings) k (omega (arith, asked .patterns))
+
+  abbrev spans-of-it : Spans
+  spans-of-it = spansOf e (period u (fromTask v k)) (period u (toTask v k))
+
+  abbrev heading-test : Bool
+  heading-test = headingFits (u .count) low (fromTask v k) (toTask v k) (pairCount v k) used
+
+  abbrev pairs-test : Bool
+  pairs-test = all (pairFits (v .pairs) used (spans-of-it .first) (spans-of-it .second)) (pairCount v k)
+
+  abbrev passes : Tested
+  passes = record { fits = true; links = linksIn (pairCount v k) h (spans-of-it .whole) }
+
+  told-here : r ≡ pick (heading-test && pairs-test) passes unfit
+  unfolding patternTested
+  told-here = told ∙ ap (patternTested e u h (v .pairs) low used) here-is
+
+  both-tests : r .fits ≡ true → (heading-test ≡ true) × (pairs-test ≡ true) × (r .links ≡ linksIn (pairCount v k) h (spans-of-it .whole))
+  both-tests z = by heading-test pairs-test refl refl told-here
+    where
+      by : (a b : Bool) → heading-test ≡ a → pairs-test ≡ b → r ≡ pick (a && b) passes unfit
+          → (heading-test ≡ true) × (pairs-test ≡ true) × (r .links ≡ linksIn (pairCount v k) h (spans-of-it .whole))
+      by true true f g q = (f, g, ap (λ (x : Tested). x .links) q)
+      by true false f g q = clash z (ap (λ (x : Tested). x .fits) q)
+      by false b f g q = clash z (ap (λ (x : Tested). x .fits) q)
+
+  pub walk-stop : r .fits ≡ false → patternFits e u v k ≡ false
+  walk-stop z = by heading-test pairs-test refl refl told-here
+    where
+      by : (a b : Bool) → heading-test ≡ a → pairs-test ≡ b → r ≡ pick (a && b) passes unfit
+          → patternFits e u v k ≡ false
+      by true true f g q = clash (ap (λ (x : Tested). x .fits) q) z
+      by true false f g q = walk-pairs e h u v asked k w l f refl refl refl refl false g
+      by false b f g q = walk-heading e u v k w f
+
+  pub walk-facts : r .fits ≡ true → HeadingFacts (u .count) low (p .from) (p .to) (p .pairs) used
+  walk-facts z = rw here-is (heading-facts (u .count) low (fromTask v k) (toTask v k) (pairCount v k) used (both-tests z .0))
+
+  pub walk-turn : r .fits ≡ true → {n : ℕ} → n ≡ p .pairs → Walking e u v (k + 1) (after (p .from) (p .to)) (used + n) (made + r .links)
+  walk-turn z c =
+      let b = both-tests z in
+      let d = c ∙ ap (λ (x : Pattern). x .pairs) here-is in
+      rw here-is (walk-on e h u v asked k w l (b .0) refl refl refl d (rw d (b .1)) (b .2))
+
 -- ---- what the walk answers
-pub tested-no : (e : ℕ) (u : Tasks) (v : Patterns) (k : ℕ) → k < v .count → patternFits e u v k ≡ false → PatternsTested e u v (record { fits = false; links = 0 })
-tested-no e u v k l f = record { fits = sym (all-fails (patternFits e u v) (v .count) k l f); links = λ t. clash t refl }
+pub tested-no : (e : ℕ) (u : Tasks) (v : Patterns) (k : ℕ) {r : Tested} → k < v .count → patternFits e u v k ≡ false → r .fits ≡ false → PatternsTested e u v r
+tested-no e u v k l f z = record { fits = z ∙ sym (all-fails (patternFits e u v) (v .count) k l f); links = λ t. clash t z }
 
 pub tested-yes : (e : ℕ) (u : Tasks) (v : Patterns) (k : ℕ) {low : Key} {used made : ℕ} → Walking e u v k low used made → v .count ≤ k → PatternsTested e u v (record { fits = true; links = made })
 unfolding links

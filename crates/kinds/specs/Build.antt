@@ -1,9 +1,11 @@
--- Task sets made step by step, as the constructors make them. A step that finds no room leaves the set as it is.
+-- Task sets as the constructors make them: of numbers and tables, or step by step. A step that finds no room makes a set that rule 10 refuses.
 use Prim.Native.Nat.{ℕ, _+_, _-_, _*_}
+use mathlib.Core.List.{List}
 use lib.Dec.{leb, ltb, eqb}
 use lib.ListN.{set, replicate, getD}
 use Rattle.vocabulary.specs.Test.{pick}
 use Rattle.kinds.specs.declared.Task.{Task}
+use Rattle.kinds.specs.declared.Counts.{Counts}
 use Rattle.kinds.specs.declared.TaskSet.{TaskSet}
 use Rattle.kinds.specs.Tasks.{taskOf, pairsIn, putTask, putHeading, putPair}
 
@@ -20,6 +22,32 @@ noTasks e m =
       pairs = replicate 2048 0;
     }
 
+-- numbers and tables
+abbrev pub inTables : Counts → List ℕ → List ℕ → List ℕ → TaskSet
+inTables f xs hs ps =
+    record {
+      edition = f .edition;
+      processors = f .processors;
+      tasks = f .tasks;
+      attributes = xs;
+      patterns = f .patterns;
+      headings = hs;
+      pairs = ps;
+    }
+
+-- no room for what is added: a task too many is counted
+abbrev pub overfull : TaskSet → TaskSet
+overfull s =
+    record {
+      edition = s .edition;
+      processors = s .processors;
+      tasks = 65;
+      attributes = s .attributes;
+      patterns = s .patterns;
+      headings = s .headings;
+      pairs = s .pairs;
+    }
+
 -- a task more
 abbrev pub plusTask : TaskSet → Task → TaskSet
 plusTask s t =
@@ -34,7 +62,7 @@ plusTask s t =
     }
 
 unfoldable pub withTask : TaskSet → ℕ → ℕ → ℕ → ℕ → TaskSet
-withTask s t c o d = pick (leb 64 (s .tasks)) s (plusTask s (taskOf t c o d))
+withTask s t c o d = pick (leb 64 (s .tasks)) (overfull s) (plusTask s (taskOf t c o d))
 
 -- a pattern more, without pairs
 abbrev pub plusPattern : TaskSet → ℕ → ℕ → TaskSet
@@ -50,7 +78,7 @@ plusPattern s x y =
     }
 
 unfoldable pub withPattern : TaskSet → ℕ → ℕ → TaskSet
-withPattern s x y = pick (leb 64 (s .patterns)) s (plusPattern s x y)
+withPattern s x y = pick (leb 64 (s .patterns)) (overfull s) (plusPattern s x y)
 
 -- a pair more, at place x, for pattern k
 abbrev pub plusPair : TaskSet → ℕ → ℕ → ℕ → ℕ → TaskSet
@@ -68,7 +96,7 @@ plusPair s k x a b =
 -- a pair more for the last pattern, where there is one and the pairs in all leave room
 unfoldable pub withPair : TaskSet → ℕ → ℕ → TaskSet
 withPair s a b =
-    pick (eqb (s .patterns) 0) s
-    (pick (ltb 64 (s .patterns)) s
-    (pick (leb 1024 (pairsIn (s .headings) (s .patterns))) s
+    pick (eqb (s .patterns) 0) (overfull s)
+    (pick (ltb 64 (s .patterns)) (overfull s)
+    (pick (leb 1024 (pairsIn (s .headings) (s .patterns))) (overfull s)
     (plusPair s (s .patterns - 1) (pairsIn (s .headings) (s .patterns)) a b)))

@@ -10,11 +10,11 @@ use Rattle.kinds.specs.declared.Cycle.{Cycle}
 use Rattle.kinds.specs.Limits.{holds, periods, longestCycle, mostJobs}
 use Rattle.kinds.specs.Tasks.{Tasks, period}
 
--- "H is the least common multiple of all periods."
+-- Rule R1.5: the cycle H is the least common multiple of all periods.
 unfoldable pub cycle : Tasks → ℕ
 cycle u = lcmOf (λ i. period u i) (u .count)
 
--- "Job numbers below H/T make up one cycle's jobs."
+-- Rule R1.6: a task has H/T jobs in a cycle.
 unfoldable pub jobsOf : Tasks → ℕ → ℕ
 jobsOf u i = cycle u / period u i
 
@@ -26,7 +26,7 @@ jobsBefore u i = total (jobsOf u) i
 unfoldable pub jobs : Tasks → ℕ
 jobs u = jobsBefore u (u .count)
 
--- Rule 5 is kept: not "H over 6,000 or over 2,048 jobs".
+-- Rules R4.5 and R4.6: 5 is not answered.
 unfoldable pub cycleFits : Tasks → Bool
 cycleFits u = leb (cycle u) longestCycle && leb (jobs u) mostJobs
 

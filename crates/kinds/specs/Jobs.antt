@@ -6,19 +6,19 @@ use Rattle.vocabulary.specs.Least.{least}
 use Rattle.kinds.specs.Tasks.{Tasks, period, offset, deadline}
 use Rattle.kinds.specs.Cycle.{jobsBefore}
 
--- "Job k (k = 0, 1, ...) is released at O + kT".
+-- Rule R1.3: job k is released k periods after the first release.
 unfoldable pub release : Tasks → ℕ → ℕ → ℕ
 release u i k = offset u i + k * period u i
 
--- the job's own deadline, in true time
+-- Rule R1.4: the job's own deadline, in true time,
 unfoldable pub due : Tasks → ℕ → ℕ → ℕ
 due u i k = release u i k + deadline u i
 
--- "its window is the ticks from O + kT up to, but not with, O + kT + D."
+-- and its window, which ends before it.
 unfoldable pub inWindow : Tasks → ℕ → ℕ → ℕ → Bool
 inWindow u i k t = leb (release u i k) t && ltb t (due u i k)
 
--- ---- the jobs of a cycle by one number, "ordered by task, then job"
+-- ---- Rule R1.7: the jobs of a cycle by one number, in their order
 unfoldable pub numberOfJob : Tasks → ℕ → ℕ → ℕ
 numberOfJob u i k = jobsBefore u i + k
 

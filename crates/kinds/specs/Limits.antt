@@ -1,4 +1,4 @@
--- The numbers that document 01 allows, each as a range. The reader refuses by these ranges, and rule 10 tests a lent set by the same.
+-- The numbers that are allowed (docs/RULES.md, section 4), each as a range. The reader refuses by these ranges, and rule 10 tests a lent set by the same.
 use mathlib.Core.Bool.{Bool, _&&_}
 use Prim.Native.Nat.{ℕ, _+_}
 use lib.Dec.{leb, ltb, eqb}
@@ -16,19 +16,19 @@ range l u = record { low = l; limit = u }
 unfoldable pub holds : Range → ℕ → Bool
 holds r v = leb (r .low) v && ltb v (r .limit)
 
--- "edition (1)": the editions that are known.
+-- Rule R4.1: the editions that are known.
 abbrev pub editions : Range
 editions = range 1 2
 
--- "Tasks 1 to 64."
+-- Rule R4.2: 1 to 64 tasks.
 abbrev pub taskCounts : Range
 taskCounts = range 1 65
 
--- "Processors 1 to 8."
+-- Rule R4.3: 1 to 8 processors.
 abbrev pub processorCounts : Range
 processorCounts = range 1 9
 
--- "T 1 to 6,000; 1 ≤ C ≤ D ≤ T; 0 ≤ O < T." "C is tested against T when read (1 ≤ C ≤ T), O against T, D against C and T."
+-- Rules R4.4 and R6.13: T is 1 to 6,000, and C, O and D are held to what was read before them, C to T, O to T, D to C and T.
 abbrev pub periods : Range
 periods = range 1 6001
 
@@ -41,26 +41,29 @@ offsets t = range 0 t
 abbrev pub deadlines : ℕ → ℕ → Range
 deadlines t c = range c (t + 1)
 
--- "H at most 6,000."
+-- Rule R4.5: a cycle of at most 6,000 ticks.
 abbrev pub longestCycle : ℕ
 longestCycle = 6000
 
--- "Jobs in a cycle at most 2,048."
+-- Rule R4.6: at most 2,048 jobs in a cycle.
 abbrev pub mostJobs : ℕ
 mostJobs = 2048
 
--- "Patterns 0 to 64, pairs in all at most 1,024." "pair count at least 1"
+-- Rules R4.7 and R4.8: at most 64 patterns, and at most 1,024 pairs in all.
 abbrev pub patternCounts : Range
 patternCounts = range 0 65
+
+abbrev pub fewestPairs : ℕ
+fewestPairs = 1
 
 abbrev pub mostPairs : ℕ
 mostPairs = 1024
 
--- "Links in a cycle (each pair counted H/p times) at most 4,096."
+-- Rule R4.9: at most 4,096 links in a cycle.
 abbrev pub mostLinks : ℕ
 mostLinks = 4096
 
--- "Patterns rise strictly by (from, to), pairs strictly by (a, b)". The key is the lowest pair of numbers that may come next: at first (0, 0), and
+-- Rule R4.11: patterns rise strictly, and so do the pairs of one. The key is the lowest pair of numbers that may come next: at first (0, 0), and
 -- (x, y + 1) after (x, y). So a first number is in order from the key's first on, and a second from the key's second on where the first numbers
 -- are equal, else from 0 on.
 abbrev pub key : ℕ → ℕ → Key

@@ -10,11 +10,11 @@ use Rattle.kinds.specs.Limits.{holds, periods}
 use Rattle.kinds.specs.Tasks.{Tasks, Patterns, period, fromTask, toTask, pairCount, pairFirst, pairSecond}
 use Rattle.kinds.specs.Cycle.{cycle, jobsOf}
 
--- "With p the least common multiple of the two periods": p of pattern k.
+-- Rule R2.2: p of pattern k.
 unfoldable pub common : Tasks → Patterns → ℕ → ℕ
 common u v k = lcm (period u (fromTask v k)) (period u (toTask v k))
 
--- "Here a < p/Ti and b < p/Tj." How far a pair's first number may go,
+-- Rule R2.4: how far a pair's first number may go,
 abbrev pub firstReach : ℕ → ℕ → ℕ
 firstReach p t = p / t
 
@@ -22,14 +22,14 @@ firstReach p t = p / t
 abbrev pub reach : ℕ → ℕ → ℕ → ℕ
 reach e p t = p / t
 
--- "the pair (a, b) links job a + k·p/Ti of i to job b + k·p/Tj of j for every k ≥ 0": the two jobs that pair q of pattern k links for the n-th time
+-- Rule R2.3: the two jobs that pair q of pattern k links for the n-th time, n = 0, 1, 2 and so on
 unfoldable pub linkFrom : Tasks → Patterns → ℕ → ℕ → ℕ → ℕ
 linkFrom u v k q n = pairFirst v k q + n * (common u v k / period u (fromTask v k))
 
 unfoldable pub linkTo : Tasks → Patterns → ℕ → ℕ → ℕ → ℕ
 linkTo u v k q n = pairSecond v k q + n * (common u v k / period u (toTask v k))
 
--- how often pattern k's pairs link jobs of one cycle: "each pair counted H/p times", "Only k below H/p is shown as evidence"
+-- Rule R2.5: how often pattern k's pairs link jobs of one cycle; only these are counted, and shown as evidence
 unfoldable pub repeats : Tasks → Patterns → ℕ → ℕ
 repeats u v k = cycle u / common u v k
 

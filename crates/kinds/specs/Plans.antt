@@ -11,7 +11,7 @@ use Rattle.kinds.specs.Tasks.{Tasks, Set, offset, deadline}
 use Rattle.kinds.specs.Cycle.{cycle}
 use Rattle.kinds.specs.Jobs.{release}
 
--- "A plan has m·H slots, tick by tick, in a tick processor by processor."
+-- Rule R3.1: the slots of a plan, tick after tick, and in a tick processor after processor.
 pub record Plan : Type 0 where
   pub slots : List ℕ
   pub processors : ℕ
@@ -23,11 +23,11 @@ plan slots m h = record { slots = slots; processors = m; cycle = h }
 abbrev pub planOf : Set → List ℕ → Plan
 planOf s slots = plan slots (s .processors) (cycle (s .tasks))
 
--- "At time t processor q shows the slot at tick t mod H".
+-- Rule R3.3: the slot that processor q shows at time t.
 unfoldable pub slot : Plan → ℕ → ℕ → ℕ
 slot p t q = getD (p .slots) (t % p .cycle * p .processors + q) 0
 
--- "Slot 0 is idle, slot v means task v − 1."
+-- Rule R3.2: task i is slot i + 1, and 0 is idle.
 unfoldable pub shows : Plan → ℕ → ℕ → ℕ → Bool
 shows p i t q = eqb (slot p t q) (i + 1)
 
@@ -35,14 +35,14 @@ shows p i t q = eqb (slot p t q) (i + 1)
 unfoldable pub shown : Plan → ℕ → ℕ → Bool
 shown p i t = some (shows p i t) (p .processors)
 
--- "it runs that task if t is at least the task's O, else it is idle."
+-- Rule R3.4: a task that is shown runs from its first release on.
 unfoldable pub awake : Tasks → ℕ → ℕ → Bool
 awake u i t = leb (offset u i) t
 
 unfoldable pub runs : Tasks → Plan → ℕ → ℕ → Bool
 runs u p i t = awake u i t && shown p i t
 
--- the ticks that job k of task i gets in its window
+-- Rule R3.5: the ticks that job k of task i gets in its window
 unfoldable pub ticks : Tasks → Plan → ℕ → ℕ → ℕ
 ticks u p i k = count (runs u p i) (release u i k) (deadline u i)
 

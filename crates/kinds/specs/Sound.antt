@@ -1,23 +1,25 @@
--- Rule 10: "a lent task set or m breaks a rule that the reader tests by 3, 4, 5, 6 or 9".
+-- Rule R7.3, which is about 10: a set that is lent keeps what the reader tests by 3, 4, 5, 6 and 9.
 use mathlib.Core.Path.{_≡_}
-use mathlib.Core.Bool.{Bool, true, _&&_, not}
+use mathlib.Core.Bool.{Bool, true, false, _&&_, not}
 use mathlib.Core.List.{List}
 use Prim.Native.Nat.{ℕ, zero, suc, _+_, _<_, _≤_}
 use lib.Dec.{leb, eqb}
 use Rattle.vocabulary.specs.Least.{all}
 use Rattle.kinds.specs.declared.Key.{Key}
 use Rattle.kinds.specs.declared.Task.{Task}
+use Rattle.kinds.specs.declared.Pattern.{Pattern}
+use Rattle.kinds.specs.declared.Spans.{Spans}
 use Rattle.kinds.specs.declared.Tested.{Tested}
 use Rattle.kinds.specs.declared.Cycle.{Cycle}
 use Rattle.kinds.specs.declared.Counts.{Counts}
 use Rattle.vocabulary.specs.Test.{pick}
-use Rattle.kinds.specs.Limits.{holds, editions, taskCounts, processorCounts, periods, runnings, offsets, deadlines, patternCounts, mostPairs}
-use Rattle.kinds.specs.Limits.{mostLinks, noKey, after, rises}
+use Rattle.kinds.specs.Limits.{holds, editions, taskCounts, processorCounts, periods, runnings, offsets, deadlines, patternCounts, fewestPairs}
+use Rattle.kinds.specs.Limits.{mostPairs, mostLinks, noKey, after, rises}
 use Rattle.kinds.specs.Tasks.{Tasks, Patterns, Set, taskAt, period, fromTask, toTask, pairCount, pairsBefore, firstIn, secondIn}
 use Rattle.kinds.specs.Cycle.{cycle, cycleFits, cycleIs, noCycle}
-use Rattle.kinds.specs.Links.{common, firstReach, reach, links}
+use Rattle.kinds.specs.Links.{common, firstReach, reach, links, spansOf, linksIn}
 
--- "T 1 to 6,000; 1 ≤ C ≤ D ≤ T; 0 ≤ O < T."
+-- Rule R4.4: T, C, O and D of a task.
 unfoldable pub attributesFit : Task → Bool
 attributesFit t =
     holds periods (t .period)
@@ -27,7 +29,7 @@ attributesFit t =
 unfoldable pub taskFits : Tasks → ℕ → Bool
 taskFits u i = attributesFit (taskAt (u .attributes) i)
 
--- "pairs strictly by (a, b)": the lowest pair that may stand at q, where the pairs begin at a place of the table
+-- Rule R4.11, for pairs: the lowest pair that may stand at q, where the pairs begin at a place of the table
 unfoldable pub pairKey : List ℕ → ℕ → ℕ → Key
 pairKey ps start zero = noKey
 pairKey ps start (suc q) = after (firstIn ps (start + q)) (secondIn ps (start + q))
@@ -36,16 +38,16 @@ pairKey ps start (suc q) = after (firstIn ps (start + q)) (secondIn ps (start + 
 unfoldable pub pairFits : List ℕ → ℕ → ℕ → ℕ → ℕ → Bool
 pairFits ps start limitA limitB q = rises (pairKey ps start q) limitA limitB (firstIn ps (start + q)) (secondIn ps (start + q))
 
--- "Patterns rise strictly by (from, to)": the lowest that may stand at k
+-- Rule R4.11, for patterns: the lowest that may stand at k
 unfoldable pub patternKey : Patterns → ℕ → Key
 patternKey v zero = noKey
 patternKey v (suc k) = after (fromTask v k) (toTask v k)
 
--- "pair count at least 1, from and to differ", "pair count carries the total past 1,024"
+-- Rules R4.8 and R4.10: two tasks that differ, a pair at least, and at most 1,024 with those before
 unfoldable pub headingFits : ℕ → Key → ℕ → ℕ → ℕ → ℕ → Bool
-headingFits n low x y count used = rises low n n x y && (not (eqb x y) && (leb 1 count && leb (used + count) mostPairs))
+headingFits n low x y count used = rises low n n x y && (not (eqb x y) && (leb fewestPairs count && leb (used + count) mostPairs))
 
--- "pattern or pair breaks range, order or difference; pair count 0": pattern k does not
+-- pattern k and its pairs keep rules R2.4, R4.8, R4.10 and R4.11
 unfoldable pub patternFits : ℕ → Tasks → Patterns → ℕ → Bool
 patternFits e u v k =
     headingFits (u .count) (patternKey v k) (fromTask v k) (toTask v k) (pairCount v k) (pairsBefore v k)
@@ -80,6 +82,18 @@ countsOf s =
       ticks = soundCycle s .ticks;
       jobs = soundCycle s .jobs;
     }
+
+-- ---- what the tests of one pattern answer, where low is the lowest that may stand there and so many pairs are used: whether it is in order, and how
+-- many links it makes then, in h ticks
+abbrev pub unfit : Tested
+unfit = record { fits = false; links = 0 }
+
+unfoldable pub patternTested : ℕ → Tasks → ℕ → List ℕ → Key → ℕ → Pattern → Tested
+patternTested e u h ps low used p =
+    let m : Spans = spansOf e (period u (p .from)) (period u (p .to)) in
+    pick (headingFits (u .count) low (p .from) (p .to) (p .pairs) used && all (pairFits ps used (m .first) (m .second)) (p .pairs))
+    (record { fits = true; links = linksIn (p .pairs) h (m .whole) })
+    unfit
 
 -- ---- what the walk over the patterns answers: whether all are in order, and how many links they make then
 pub record PatternsTested (e : ℕ) (u : Tasks) (v : Patterns) (r : Tested) : Type 0 where

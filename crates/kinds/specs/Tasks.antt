@@ -12,7 +12,7 @@ use Rattle.kinds.specs.declared.Pattern.{Pattern}
 use Rattle.kinds.specs.declared.Pair.{Pair}
 use Rattle.kinds.specs.declared.TaskSet.{TaskSet}
 
--- "Task i has period T, running time C, first release O, relative deadline D." The four numbers of all tasks stand one after another in a table.
+-- Rule R1.2: a task is T, C, O and D. The four numbers of all tasks stand one after another in a table.
 pub record Tasks : Type 0 where
   pub count : ℕ
   pub attributes : List ℕ
@@ -38,8 +38,8 @@ offset u i = taskAt (u .attributes) i .offset
 abbrev pub deadline : Tasks → ℕ → ℕ
 deadline u i = taskAt (u .attributes) i .deadline
 
--- "A pattern from task i to task j is a set of pairs." Two tasks and the pair count of all patterns stand one after another in a table, and so do
--- the two numbers of the pairs of all patterns.
+-- Rule R2.1: a pattern leads from a task to another and has pairs. Two tasks and the pair count of all patterns stand one after another in a table, and
+-- so do the two numbers of the pairs of all patterns.
 pub record Patterns : Type 0 where
   pub count : ℕ
   pub headings : List ℕ
@@ -72,7 +72,7 @@ firstIn ps x = getD ps (2 * x) 0
 abbrev pub secondIn : List ℕ → ℕ → ℕ
 secondIn ps x = getD ps (2 * x + 1) 0
 
--- of pair q of pattern k: "patterns count from 0, pairs from 0 within their pattern"
+-- of pair q of pattern k: patterns count from 0, and pairs from 0 in each
 abbrev pub pairFirst : Patterns → ℕ → ℕ → ℕ
 pairFirst v k q = firstIn (v .pairs) (pairsBefore v k + q)
 
@@ -107,7 +107,7 @@ pub pair-in : (ps : List ℕ) (x : ℕ) → x < 1024 → pairIn ps x ≡ record 
 unfolding pairIn
 pair-in ps x l = rw (lt-ltb x 1024 l)
 
--- the whole set: "The set keeps its edition", and m goes with it
+-- Rule R4.1: the whole set keeps its edition, and m goes with it
 pub record Set : Type 0 where
   pub edition : ℕ
   pub processors : ℕ

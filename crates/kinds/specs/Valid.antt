@@ -1,5 +1,5 @@
--- Demand 2, over all time: the plan's "endless repetition gives every job exactly its running time between release and deadline and no tick outside,
--- never on two processors at once, with every precedence kept."
+-- Rule R3.7, over all time: what demand 2 calls right. It has four clauses: each job its full time in its window, no tick outside, no task on two
+-- processors at once, every link kept.
 use mathlib.Core.Path.{_≡_}
 use mathlib.Core.Bool.{true}
 use Prim.Native.Nat.{ℕ, _<_}
@@ -18,23 +18,23 @@ pub record InSomeWindow (u : Tasks) (i t : ℕ) : Type 0 where
   pub job : ℕ
   pub within : inWindow u i job t ≡ true
 
--- "no tick outside"
+-- no tick outside
 pub record Inside (u : Tasks) (p : Plan) : Type 0 where
   pub each : (i t : ℕ) → i < u .count → runs u p i t ≡ true → InSomeWindow u i t
 
--- "never on two processors at once"
+-- never on two processors at once
 pub record Alone (u : Tasks) (p : Plan) : Type 0 where
   pub each : (i t q r : ℕ) → i < u .count → awake u i t ≡ true → q < r → r < p .processors → shows p i t q ≡ true → shows p i t r ≡ true → ⊥
 
--- "every job exactly its running time between release and deadline"
+-- every job gets exactly its running time in its window
 pub record Exact (u : Tasks) (p : Plan) : Type 0 where
   pub each : (i k : ℕ) → i < u .count → ticks u p i k ≡ running u i
 
--- "A link is kept when every tick of the first job is earlier than every tick of the second, in true time and not in slot ticks."
+-- Rule R3.6: the link from job k of task i to job l of task j is kept. Times are true ones, and not ticks of the cycle
 pub record LinkKept (u : Tasks) (p : Plan) (i k j l : ℕ) : Type 0 where
   pub each : (x y : ℕ) → TickOf u p i k x → TickOf u p j l y → x < y
 
--- "every precedence kept": all links, for every k ≥ 0
+-- every link kept, each repetition of each pair, for ever
 pub record Kept (u : Tasks) (v : Patterns) (p : Plan) : Type 0 where
   pub each : (k q n : ℕ) → k < v .count → q < pairCount v k → LinkKept u p (fromTask v k) (linkFrom u v k q n) (toTask v k) (linkTo u v k q n)
 

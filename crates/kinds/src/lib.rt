@@ -11,8 +11,9 @@ ghost use Rattle.kinds.specs.Limits.{Range, range, holds, periods, rises
 ghost use Rattle.kinds.specs.Tasks.{Tasks, period, tasksOf, patternsOf, pairsIn, taskIn, patternIn, pairIn, view};
 ghost use Rattle.kinds.specs.Cycle.{multipleOf, ticksOf, cycleOf};
 ghost use Rattle.kinds.specs.Links.{spansOf, linksIn};
-ghost use Rattle.kinds.specs.Sound.{attributesFit, taskFits, pairFits, headingFits, PatternsTested, PatternsAsked, openingFits, sound, soundCycle, countsOf};
-ghost use Rattle.kinds.specs.Build.{noTasks, withTask, withPattern, withPair};
+ghost use Rattle.kinds.specs.Sound.{attributesFit, taskFits, pairFits, headingFits, patternTested, PatternsTested, PatternsAsked, openingFits};
+ghost use Rattle.kinds.specs.Sound.{sound, soundCycle, countsOf};
+ghost use Rattle.kinds.specs.Build.{noTasks, inTables, withTask, withPattern, withPair};
 
 // The tables of a set, each of which can be lent: T, C, O and D of task after task,
 pub type Attributes = [u32; 256];
@@ -82,28 +83,54 @@ pub struct Spans {
     pub second: u32,
 }
 
-// Whether the walk over the patterns found all in order, and how many links they make.
+// Whether a pattern, or all of them, are in order, and how many links they make then.
 pub struct Tested {
     pub fits: bool,
     pub links: u64,
 }
 
+// Limits belong to the kinds that they limit. A range runs from its lowest number up to, but not with, its limit.
 impl Cycle {
     pub const LONGEST: u32 = 6000;
 
     pub const MOST_JOBS: u32 = 2048;
 }
 
-impl TaskSet {
-    pub const EDITION: u32 = 1;
-
-    pub const MOST_TASKS: usize = 64;
-
-    pub const MOST_PROCESSORS: u32 = 8;
+impl Task {
+    pub const SHORTEST_PERIOD: u32 = 1;
 
     pub const LONGEST_PERIOD: u32 = 6000;
 
+    pub const PERIOD_LIMIT: u32 = Task::LONGEST_PERIOD + 1;
+
+    pub const LEAST_RUNNING: u32 = 1;
+}
+
+impl Pattern {
+    pub const FEWEST_PAIRS: u32 = 1;
+}
+
+impl TaskSet {
+    // The one edition that is known.
+    pub const EDITION: u32 = 1;
+
+    pub const EDITION_LIMIT: u32 = TaskSet::EDITION + 1;
+
+    pub const FEWEST_TASKS: usize = 1;
+
+    pub const MOST_TASKS: usize = 64;
+
+    pub const TASK_LIMIT: usize = TaskSet::MOST_TASKS + 1;
+
+    pub const FEWEST_PROCESSORS: u32 = 1;
+
+    pub const MOST_PROCESSORS: u32 = 8;
+
+    pub const PROCESSOR_LIMIT: u32 = TaskSet::MOST_PROCESSORS + 1;
+
     pub const MOST_PATTERNS: usize = 64;
+
+    pub const PATTERN_LIMIT: usize = TaskSet::MOST_PATTERNS + 1;
 
     pub const MOST_PAIRS: usize = 1024;
 
@@ -143,12 +170,29 @@ impl TaskSet {
         }
     }
 
-    // The set with a task more; the same set where it has 64.
+    // A set by its numbers and tables.
+    pub fn of(f: Counts, attributes: Attributes, headings: Headings, pairs: Pairs) -> TaskSet
+        ensures { λ r. ⌜ r ≡ inTables f attributes headings pairs ⌝ }
+    {
+        TaskSet {
+            edition: f.edition,
+            processors: f.processors,
+            tasks: f.tasks,
+            attributes,
+            patterns: f.patterns,
+            headings,
+            pairs,
+        }
+    }
+
+    // The set with a task more. Where there is no room for what is added, by this function and the next two, nothing is dropped silently: the set counts a
+    // task too many from then on, and rule 10 refuses it.
     pub fn with_task(mut self, period: u32, running: u32, offset: u32, deadline: u32) -> TaskSet
         ensures { λ r. ⌜ r ≡ withTask self period running offset deadline ⌝ }
     {
         let i = self.tasks;
         if TaskSet::MOST_TASKS <= i {
+            self.tasks = TaskSet::TASK_LIMIT;
             return self;
         }
         let x = TaskSet::OF_TASK * i;
@@ -160,12 +204,13 @@ impl TaskSet {
         self
     }
 
-    // The set with a pattern more that has no pair yet; the same set where it has 64.
+    // The set with a pattern more that has no pair yet.
     pub fn with_pattern(mut self, from: u32, to: u32) -> TaskSet
         ensures { λ r. ⌜ r ≡ withPattern self from to ⌝ }
     {
         let k = self.patterns;
         if TaskSet::MOST_PATTERNS <= k {
+            self.tasks = TaskSet::TASK_LIMIT;
             return self;
         }
         let x = TaskSet::OF_PATTERN * k;
@@ -176,20 +221,23 @@ impl TaskSet {
         self
     }
 
-    // The set with a pair more in its last pattern; the same set where there is no pattern, or no room.
+    // The set with a pair more in its last pattern; a set without a pattern has no room for one.
     pub fn with_pair(mut self, a: u16, b: u16) -> TaskSet
         ensures { λ r. ⌜ r ≡ withPair self a b ⌝ }
     {
         let n = self.patterns;
         if n == 0 {
+            self.tasks = TaskSet::TASK_LIMIT;
             return self;
         }
         if TaskSet::MOST_PATTERNS < n {
+            self.tasks = TaskSet::TASK_LIMIT;
             return self;
         }
         let headings = self.headings;
         let used = pairs_in(&headings, n);
         if TaskSet::MOST_PAIRS <= used {
+            self.tasks = TaskSet::TASK_LIMIT;
             return self;
         }
         let k = TaskSet::OF_PATTERN * (n - 1) + TaskSet::LENGTH;
@@ -251,10 +299,10 @@ fn multiple_of(a: u32, b: u32) -> u32
 pub fn common_multiple(a: u32, b: u32) -> u32
     ensures { λ r. ⌜ r ≡ multipleOf a b ⌝ }
 {
-    if !is_within(a, 1, 6001) {
+    if !is_within(a, Task::SHORTEST_PERIOD, Task::PERIOD_LIMIT) {
         return 0;
     }
-    if !is_within(b, 1, 6001) {
+    if !is_within(b, Task::SHORTEST_PERIOD, Task::PERIOD_LIMIT) {
         return 0;
     }
     if a < b {
@@ -348,26 +396,30 @@ pub fn links_in(n: u32, h: u32, p: u32) -> u64
 fn opening_fits(edition: u32, tasks: usize, processors: u32) -> bool
     ensures { λ b. ⌜ b ≡ openingFits edition tasks processors ⌝ }
 {
-    if !is_within(edition, 1, 2) {
+    if !is_within(edition, TaskSet::EDITION, TaskSet::EDITION_LIMIT) {
         return false;
     }
-    if tasks < 1 {
+    if tasks < TaskSet::FEWEST_TASKS {
         return false;
     }
     if TaskSet::MOST_TASKS < tasks {
         return false;
     }
-    is_within(processors, 1, 9)
+    is_within(
+        processors,
+        TaskSet::FEWEST_PROCESSORS,
+        TaskSet::PROCESSOR_LIMIT,
+    )
 }
 
 // T, C, O and D are in their ranges.
 fn attributes_fit(t: Task) -> bool
     ensures { λ b. ⌜ b ≡ attributesFit t ⌝ }
 {
-    if !is_within(t.period, 1, 6001) {
+    if !is_within(t.period, Task::SHORTEST_PERIOD, Task::PERIOD_LIMIT) {
         return false;
     }
-    if !is_within(t.running, 1, t.period + 1) {
+    if !is_within(t.running, Task::LEAST_RUNNING, t.period + 1) {
         return false;
     }
     if !is_within(t.offset, 0, t.period) {
@@ -502,24 +554,55 @@ fn heading_fits(tasks: u32, low: Key, x: u32, y: u32, pairs: u32, used: usize) -
     if x == y {
         return false;
     }
-    if pairs == 0 {
+    if pairs < Pattern::FEWEST_PAIRS {
         return false;
     }
     used + wide(pairs) <= TaskSet::MOST_PAIRS
 }
 
+// A pattern with its pairs keeps rule 6, after the patterns before it, and how many links it makes.
+fn pattern_fits(
+    f: Counts,
+    p: Pattern,
+    low: Key,
+    used: usize,
+    attributes: &Attributes,
+    pairs: &Pairs,
+) -> Tested
+    requires { ⌜ (f .tasks ≤ 64) × (used ≤ 1024) ⌝ }
+    ensures { λ r. ⌜ r ≡ patternTested (f .edition) (tasksOf (f .tasks) (now (attributes .entry))) (f .ticks) (now (pairs .entry)) low used p ⌝ }
+{
+    let none = Tested {
+        fits: false,
+        links: 0,
+    };
+    if !heading_fits(f.tasks as u32, low, p.from, p.to, p.pairs, used) {
+        return none;
+    }
+    let s = spans_of(
+        f.edition,
+        attributes[TaskSet::OF_TASK * wide(p.from)],
+        attributes[TaskSet::OF_TASK * wide(p.to)],
+    );
+    if !pairs_fit(pairs, used, wide(p.pairs), s.first, s.second) {
+        return none;
+    }
+    Tested {
+        fits: true,
+        links: links_in(p.pairs, f.ticks, s.whole),
+    }
+}
+
 // The patterns with their pairs keep rule 6, and how many links they make. The tables have one lifetime, so that the fields of one set can be lent together.
 fn patterns_fit<'a>(
-    edition: u32,
-    tasks: u32,
-    h: u32,
-    n: usize,
+    f: Counts,
     attributes: &'a Attributes,
     headings: &'a Headings,
     pairs: &'a Pairs,
 ) -> Tested
-    requires { ⌜ PatternsAsked (tasksOf tasks (now attributes)) (patternsOf n (now headings) (now pairs)) h ⌝ }
-    ensures { λ r. ⌜ PatternsTested edition (tasksOf tasks (now (attributes .entry))) (patternsOf n (now (headings .entry)) (now (pairs .entry))) r ⌝ }
+    requires { ⌜ PatternsAsked (tasksOf (f .tasks) (now attributes)) (patternsOf (f .patterns) (now headings) (now pairs)) (f .ticks) ⌝ }
+    ensures { λ r. ⌜ PatternsTested (f .edition) (tasksOf (f .tasks) (now (attributes .entry)))
+        (patternsOf (f .patterns) (now (headings .entry)) (now (pairs .entry))) r ⌝ }
 {
     let mut low = Key {
         first: 0,
@@ -528,35 +611,18 @@ fn patterns_fit<'a>(
     let mut used: usize = 0;
     let mut links: u64 = 0;
     let mut k: usize = 0;
-    while k < n {
-        let at = TaskSet::OF_PATTERN * k;
-        let x = headings[at];
-        let y = headings[at + TaskSet::TO];
-        let c = headings[at + TaskSet::LENGTH];
-        if !heading_fits(tasks, low, x, y, c, used) {
-            return Tested {
-                fits: false,
-                links: 0,
-            };
-        }
-        let s = spans_of(
-            edition,
-            attributes[TaskSet::OF_TASK * wide(x)],
-            attributes[TaskSet::OF_TASK * wide(y)],
-        );
-        let m = wide(c);
-        if !pairs_fit(pairs, used, m, s.first, s.second) {
-            return Tested {
-                fits: false,
-                links: 0,
-            };
+    while k < f.patterns {
+        let p = pattern_at(headings, k);
+        let r = pattern_fits(f, p, low, used, attributes, pairs);
+        if !r.fits {
+            return r;
         }
         low = Key {
-            first: x,
-            second: y + 1,
+            first: p.from,
+            second: p.to + 1,
         };
-        used += m;
-        links += links_in(c, h, s.whole);
+        used += wide(p.pairs);
+        links += r.links;
         k += 1;
     }
     Tested { fits: true, links }
@@ -568,36 +634,37 @@ fn sound_cycle(set: TaskSet) -> Cycle
 {
     let none = Cycle { ticks: 0, jobs: 0 };
     let n = set.tasks;
-    if !opening_fits(set.edition, n, set.processors) {
+    let m = set.processors;
+    if !opening_fits(set.edition, n, m) {
         return none;
     }
     if !tasks_fit(&set.attributes, n) {
         return none;
     }
-    let cycle = cycle_of(&set.attributes, n);
-    if cycle.ticks == 0 {
+    let c = cycle_of(&set.attributes, n);
+    if c.ticks == 0 {
         return none;
     }
     let k = set.patterns;
     if TaskSet::MOST_PATTERNS < k {
         return none;
     }
-    let r = patterns_fit(
-        set.edition,
-        n as u32,
-        cycle.ticks,
-        k,
-        &set.attributes,
-        &set.headings,
-        &set.pairs,
-    );
+    let f = Counts {
+        edition: set.edition,
+        processors: m,
+        tasks: n,
+        patterns: k,
+        ticks: c.ticks,
+        jobs: c.jobs,
+    };
+    let r = patterns_fit(f, &set.attributes, &set.headings, &set.pairs);
     if !r.fits {
         return none;
     }
     if TaskSet::MOST_LINKS < r.links {
         return none;
     }
-    cycle
+    c
 }
 
 // Rule 10: whether the reader would let this set through.

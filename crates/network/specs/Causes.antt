@@ -13,29 +13,29 @@ use Rattle.kinds.specs.Cycle.{cycle, jobs, jobsOf}
 use Rattle.network.specs.Network.{network}
 use Rattle.network.specs.Times.{ownRunning, adjustedRelease, adjustedDeadline}
 
--- "13: links make a cycle": job x lies on one when a way of at least one link leads from it to itself
+-- Rule R9.2, which is about 13: job x lies on a cycle when a way of at least one link leads from it to itself
 unfoldable pub onCycle : Tasks → Patterns → ℕ → Bool
 onCycle u v x = loops (network u v) x
 
--- "14: sum of C·H/T is over m·H"
+-- Rule R9.3, which is about 14: the ticks that the jobs of a cycle need, and those that the processors have
 unfoldable pub load : Tasks → ℕ
 load u = total (λ i. running u i * jobsOf u i) (u .count)
 
 unfoldable pub room : Set → ℕ
 room s = s .processors * cycle (s .tasks)
 
--- "15: a job's adjusted release + C is over its adjusted deadline"
+-- Rule R9.4, which is about 15: adjusted release and running time together are over the adjusted deadline
 unfoldable pub tight : Tasks → Patterns → ℕ → Bool
 tight u v x = ltZ (adjustedDeadline u v x) (pos (adjustedRelease u v x + ownRunning u x))
 
--- "Lowest means by task, then job": the lowest job on a cycle, and the lowest tight one; as many as there are jobs where there is none
+-- Rule R7.6: the lowest job on a cycle, and the lowest tight one; as many as there are jobs where there is none
 abbrev pub lowestCycle : Set → ℕ
 lowestCycle s = least (onCycle (s .tasks) (s .patterns)) (jobs (s .tasks))
 
 abbrev pub lowestTight : Set → ℕ
 lowestTight s = least (tight (s .tasks) (s .patterns)) (jobs (s .tasks))
 
--- "Per job of one cycle, ordered by task, then job", "into two lent buffers of signed 32-bit numbers"
+-- Rule R8.4: the times of the jobs of a cycle, in their order
 abbrev pub releasesOf : Set → List ℤ
 releasesOf s = table (λ x. pos (adjustedRelease (s .tasks) (s .patterns) x)) (jobs (s .tasks))
 

@@ -1,4 +1,4 @@
--- The jobs of a cycle and the links between them, as a graph: jobs by their number, links one after another.
+-- Rule R8.1: the jobs of a cycle and the links between them, as a graph: jobs by their number, links one after another.
 use mathlib.Core.List.{List}
 use Prim.Native.Nat.{ℕ}
 use lib.ListN.{length, getD}

@@ -22,11 +22,11 @@ ownRunning u x = running u (taskOfJob u x)
 unfoldable pub releaseWeight : Tasks → ℕ → ℕ
 releaseWeight u x = 0
 
--- "Adjusted release: the greatest of the job's own release and its predecessors' adjusted releases". Releases that satisfy this for every job:
+-- Rule R8.3: adjusted releases are those of which each is the greatest of the job's own release and its predecessors' adjusted ones.
 pub record AdjustedReleases (u : Tasks) (v : Patterns) (r : ℕ → ℕ) : Type 0 where
   pub solves : Solves (network u v) (ownRelease u) (releaseWeight u) r
 
--- "Adjusted deadline: the least of the job's own deadline and, for each successor, its adjusted deadline minus its C." Deadlines that satisfy this:
+-- Rule R8.2: adjusted deadlines are those of which each is the least of the job's own deadline and each successor's adjusted one less its C.
 pub record AdjustedDeadlines (u : Tasks) (v : Patterns) (d : ℕ → ℤ) : Type 0 where
   pub solves : (x : ℕ) → x < network u v .n → d x ≡ soonest.due (network u v) (ownDue u) (ownRunning u) d x
 

@@ -12,8 +12,8 @@ use Rattle.numbers.specs.declared.Number.the-variants as number
 use Rattle.numbers.specs.declared.Got.{Got}
 use Rattle.numbers.specs.declared.Got.the-variants as got
 
--- "A number is one to three bytes, seven bits each, lowest group first, top bit set on every byte but the last, shortest form only." A second or
--- third byte of 0 would add nothing, so the form is not shortest; a third byte has no top bit.
+-- Rules R5.1 and R5.2: one to three bytes of seven bits, the lowest first, in the shortest form. A second or third byte of 0 would add nothing, so the form
+-- is not shortest; a third byte has no top bit.
 unfoldable pub numberAt : List ℕ → ℕ → Number
 numberAt s at =
     pick (leb (length s) at) number.Ends
@@ -27,7 +27,7 @@ numberAt s at =
     (number.Value (getD s at 0 - 128 + 128 * (getD s (at + 1) 0 - 128) + 16384 * getD s (at + 2) 0) (at + 3))
     number.Malformed)))))))
 
--- "a number's form before its meaning": what was read at a place of a file of some length, held to a range
+-- Rule R6.11: what was read at a place of a file of some length, its form first, and then held to a range
 unfoldable pub held : Number → ℕ → ℕ → Range → Refusal → Got
 held number.Ends len at r fault = got.Refused (refusal.Ends len)
 held number.Malformed len at r fault = got.Refused (refusal.Malformed at)
@@ -36,7 +36,7 @@ held (number.Value v next) len at r fault = pick (holds r v) (got.Value v next) 
 unfoldable pub gotAt : List ℕ → ℕ → Range → Refusal → Got
 gotAt s at r fault = held (numberAt s at) (length s) at r fault
 
--- "the first fault in file order": a refusal ends the reading, else it goes on with the number and the next place
+-- Rule R6.10: a refusal ends the reading, else it goes on with the number and the next place
 unfoldable pub andThen : {A : Type 0} → (Refusal → A) → Got → (ℕ → ℕ → A) → A
 andThen refuse (got.Value v next) k = k v next
 andThen refuse (got.Refused r) k = refuse r

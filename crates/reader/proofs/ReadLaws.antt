@@ -114,7 +114,7 @@ slots-of s p e =
     from-some s zero at n q l e = absurd (omega arith)
     from-some s (suc k) at n q l e = let w = one-more s k at n q e in slots-read s (suc k) at n q (omega arith) e
 
--- "then m·H slots; then the end"
+-- m·H slots, and the end
 pub read-long : (s : List ℕ) (p : ℕ) → readOf s .outcome ≡ outcome.At p → length s ≡ p + readOf s .set .processors * cycle (view (readOf s .set) .tasks)
 read-long s p e = slots-of s p e .long
 
@@ -122,7 +122,7 @@ read-long s p e = slots-of s p e .long
 pub read-slots : (s : List ℕ) (p : ℕ) → readOf s .outcome ≡ outcome.At p → (j : ℕ) → p ≤ j → j < length s → getD s j 0 ≤ readOf s .set .tasks
 read-slots s p e = slots-of s p e .low
 
--- "entries beyond its counts read as 0", whatever the file
+-- Rule R4.12: entries beyond the counts are 0, whatever the file
 pub read-blank : (s : List ℕ) → Blank (readOf s .set)
 unfolding readOf onHead onSlots
 read-blank s = by (headOf s .outcome) refl

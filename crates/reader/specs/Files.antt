@@ -1,4 +1,4 @@
--- A whole plan file: the head, "then m·H slots; then the end", and the head alone.
+-- A whole plan file, which is a head, slots and the end, and the head alone.
 use mathlib.Core.Bool.{true, false}
 use mathlib.Core.List.{List}
 use Prim.Native.Nat.{ℕ, zero, suc, _+_, _*_}
@@ -20,7 +20,7 @@ use Rattle.heads.specs.Tables.{PatternTables, noAttributes, noPatternTables}
 use Rattle.heads.specs.Heads.{HeadRead, headFrom, setOf}
 
 -- ---- the slots, and the end
--- k slots more, from a place, none above n: "a slot is one byte, so 80 there is 7"; then nothing
+-- Rule R5.4: k slots more, from a place, each a byte that is not above n; then nothing
 unfoldable pub slotsFrom : List ℕ → ℕ → ℕ → ℕ → Outcome
 slotsFrom s zero at n = pick (ltb at (length s)) (outcome.Refused (refusal.LeftOver at)) (outcome.At at)
 slotsFrom s (suc k) at n =
@@ -31,7 +31,7 @@ slotsFrom s (suc k) at n =
 abbrev pub loaded : Outcome → TaskSet → Loaded
 loaded o s = record { outcome = o; set = s }
 
--- a refusal hands out the empty set
+-- Rule R5.5: a refusal hands out the empty set,
 abbrev pub refused : Refusal → Loaded
 refused r = loaded (outcome.Refused r) (noTasks 0 0)
 
@@ -55,11 +55,11 @@ unfoldable pub onHead : List ℕ → Head → List ℕ → PatternTables → Loa
 onHead s (head.Of f at) t v = closedOf s at f (setOf f t v)
 onHead s (head.Refused r) t v = refused r
 
--- "The reader answers with the set and the place of the first slot".
+-- and a file that is read its set and the place of its first slot.
 unfoldable pub readOf : List ℕ → Loaded
 readOf s = let r : HeadRead = headFrom s noAttributes noPatternTables in onHead s (r .outcome) (r .tasks) (r .patterns)
 
--- ---- the head alone, as the C side passes tasks and m: "bytes that the reader would refuse, or bytes left over, give 10"
+-- ---- Rule R12.1: the head alone, as C passes tasks and m; bytes that are refused and bytes left over are not taken
 abbrev pub notTaken : Taking
 notTaken = record { fits = false; set = noTasks 0 0 }
 

@@ -3,9 +3,9 @@ ghost use mathlib.Core.Path.{_≡_};
 ghost use mathlib.Core.Bool.{true};
 ghost use Prim.Native.Nat.{_+_, _*_, _<_};
 ghost use lib.ListN.{length, getD};
-ghost use Rattle.reader.specs.Answers.{refusalNumber, refusalEvidence, numberOf, evidenceOf};
+ghost use Rattle.numbers.specs.Answers.{refusalNumber, refusalEvidence};
+ghost use Rattle.reader.specs.Answers.{numberOf, evidenceOf};
 ghost use Rattle.heads.specs.Tables.{patternTables};
-ghost use Rattle.heads.specs.Heads.{setOf};
 ghost use Rattle.reader.specs.Files.{endedOf, closedOf, wholeOf, slotsFrom, refused, readOf, notTaken, takenOf, noCounts, wholeRead, wholeFrom};
 use heads::Head;
 use heads::Outcome;
@@ -77,21 +77,6 @@ fn take_none() -> Taking
     Taking { fits: false, set }
 }
 
-// The set of a head: its numbers and its tables.
-fn set_of(f: Counts, attributes: Attributes, headings: Headings, pairs: Pairs) -> TaskSet
-    ensures { λ r. ⌜ r ≡ setOf f attributes (patternTables headings pairs) ⌝ }
-{
-    TaskSet {
-        edition: f.edition,
-        processors: f.processors,
-        tasks: f.tasks,
-        attributes,
-        patterns: f.patterns,
-        headings,
-        pairs,
-    }
-}
-
 // Where the slots of a file with this head are, or what is refused after the head.
 fn end_file(file: &[u8], at: usize, f: Counts) -> Outcome
     ensures { λ r. ⌜ r ≡ endedOf (now (file .entry)) at f ⌝ }
@@ -135,7 +120,7 @@ pub fn read(file: &[u8]) -> Loaded
     match heads::read_head(file, &mut attributes, &mut headings, &mut pairs) {
         Head::Refused(r) => refuse(r),
         Head::Of(f, at) => {
-            let set = set_of(f, attributes, headings, pairs);
+            let set = TaskSet::of(f, attributes, headings, pairs);
             close_file(file, at, f, set)
         }
     }
@@ -164,7 +149,7 @@ pub fn take_head(bytes: &[u8]) -> Taking
     match heads::read_head(bytes, &mut attributes, &mut headings, &mut pairs) {
         Head::Refused(_) => take_none(),
         Head::Of(f, at) => {
-            let set = set_of(f, attributes, headings, pairs);
+            let set = TaskSet::of(f, attributes, headings, pairs);
             take_whole(at, bytes.len(), set)
         }
     }
@@ -237,7 +222,7 @@ fn refusal_place(r: Refusal) -> usize
     }
 }
 
-// The number of document 01 for what the reader answers: 0, or 1 to 9.
+// The number of what the reader answers: 0, or 1 to 9.
 pub fn number_of(o: Outcome) -> u32
     ensures { λ n. ⌜ n ≡ numberOf o ⌝ }
 {

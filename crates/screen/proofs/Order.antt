@@ -1,4 +1,4 @@
--- The order of the answers: "Screen: 10, 13, 14, 15, else no finding." "Adjusted times: 10, 11, 13." Each way through, from what the tests before it said.
+-- The order of the answers, rules R8.5 and R9.5: each way through, from what the tests before it said.
 use mathlib.Core.Path.{_≡_}
 use mathlib.Core.Bool.{true, false}
 use Prim.Native.Nat.{ℕ, _≤_, _<_}

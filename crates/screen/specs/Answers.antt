@@ -1,4 +1,4 @@
--- Document 01's number and evidence for each finding, and for each answer of the call for adjusted times.
+-- Number and evidence of each finding, and of each answer of the call for adjusted times, by docs/RULES.md, sections 8 and 9.
 use mathlib.Core.Bool.{Bool, true, false}
 use mathlib.Core.List.{List, [], _∷_}
 use Prim.Native.Nat.{ℕ}
@@ -7,7 +7,7 @@ use Rattle.screen.specs.declared.Finding.the-variants as finding
 use Rattle.screen.specs.declared.Adjusted.{Adjusted}
 use Rattle.screen.specs.declared.Adjusted.the-variants as adjusted
 
--- "13: links make a cycle", "14: sum of C·H/T is over m·H", "15: a job's adjusted release + C is over its adjusted deadline"; 0 for no finding.
+-- Rules R9.1 to R9.4; 0 for no finding.
 abbrev pub findingNumber : Finding → ℕ
 findingNumber finding.Nothing = 0
 findingNumber finding.BadSet = 10
@@ -15,7 +15,7 @@ findingNumber (finding.Cycle i k) = 13
 findingNumber (finding.Overload a b) = 14
 findingNumber (finding.TooTight i k) = 15
 
--- 13 shows the "lowest job that lies on one", 14 "both numbers", 15 the "lowest such job".
+-- 13 shows the lowest job on a cycle, 14 what is needed and what there is, 15 the lowest job that is too tight.
 abbrev pub findingEvidence : Finding → List ℕ
 findingEvidence finding.Nothing = []
 findingEvidence finding.BadSet = []
@@ -23,7 +23,7 @@ findingEvidence (finding.Cycle i k) = i ∷ k ∷ []
 findingEvidence (finding.Overload a b) = a ∷ b ∷ []
 findingEvidence (finding.TooTight i k) = i ∷ k ∷ []
 
--- "Adjusted times: 10, 11, 13."
+-- Rule R8.5.
 abbrev pub adjustedNumber : Adjusted → ℕ
 adjustedNumber adjusted.Written = 0
 adjustedNumber adjusted.BadSet = 10

@@ -18,7 +18,7 @@ use Rattle.screen.specs.declared.Adjusted.the-variants as adjusted
 use Rattle.screen.specs.Answers.{written}
 use Rattle.network.specs.Causes.{load, room, lowestCycle, lowestTight, releasesOf, deadlinesOf}
 
--- "Screen: 10, 13, 14, 15, else no finding."
+-- Rule R9.5: the findings in their order.
 unfoldable pub screenRules : Set → List (Rule Finding)
 screenRules s =
     let u : Tasks = s .tasks in
@@ -33,7 +33,7 @@ screenRules s =
 unfoldable pub findingOf : Set → Finding
 findingOf s = firstOf (screenRules s) finding.Nothing
 
--- ---- "Adjusted times: 10, 11, 13." Here p and q are the lengths of the two buffers, "each of exactly that length".
+-- ---- Rule R8.5: the refusals of the call for adjusted times in their order. Here p and q are the lengths of the two buffers.
 unfoldable pub adjustRules : Set → ℕ → ℕ → List (Rule Adjusted)
 adjustRules s p q =
     let u : Tasks = s .tasks in

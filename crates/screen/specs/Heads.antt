@@ -1,5 +1,4 @@
--- The screen and adjusted times for C: "The C side passes tasks and m as the bytes of a file from the edition to the last pair; bytes that the reader would
--- refuse, or bytes left over, give 10."
+-- The screen and adjusted times for C, which passes tasks and m as the bytes of a head (rules R12.1, R12.6).
 use mathlib.Core.Path.{_≡_, sym, _∙_}
 use mathlib.Core.List.{List}
 use Prim.Native.Nat.{ℕ}

@@ -132,7 +132,7 @@ pub fn adjust_head(tasks: &[u8], releases: &mut [i32], deadlines: &mut [i32]) ->
     adjusted_of(f, releases.len(), deadlines.len())
 }
 
-// The number of document 01 for a finding: 0, 10, 13, 14 or 15.
+// The number of a finding: 0, 10, 13, 14 or 15.
 pub fn number_of(f: Finding) -> u32
     ensures { λ n. ⌜ n ≡ findingNumber f ⌝ }
 {
@@ -145,7 +145,7 @@ pub fn number_of(f: Finding) -> u32
     }
 }
 
-// The number of document 01 for what the call for adjusted times did: 0, 10, 11 or 13.
+// The number of what the call for adjusted times did: 0, 10, 11 or 13.
 pub fn adjusted_number_of(a: Adjusted) -> u32
     ensures { λ n. ⌜ n ≡ adjustedNumber a ⌝ }
 {

@@ -1,4 +1,4 @@
--- 12: "a slot of a lent plan is above the task count".
+-- Rule R7.5, which is about 12: the slot at place e is above the task count n.
 use mathlib.Core.Bool.{Bool}
 use mathlib.Core.List.{List}
 use Prim.Native.Nat.{ℕ}

@@ -1,4 +1,4 @@
-// Rule 12, for a plan and for a row of it: "a slot of a lent plan is above the task count".
+// Rule 12 (R7.5 in docs/RULES.md), for a plan and for a row of it: no slot is above the task count.
 ghost use mathlib.Core.Path.{_≡_};
 ghost use Prim.Native.Nat.{_≤_};
 ghost use lib.ListN.{length};

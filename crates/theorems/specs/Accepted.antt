@@ -18,6 +18,6 @@ use Rattle.theorems.specs.Demand3Plans.{accepted-fits}
 pub accepted-plays : (s : Set) (slots : List ℕ) → verdictOf s slots ≡ verdict.Accepted → Fits s slots × Valid s (planOf s slots)
 accepted-plays s slots e = (accepted-fits s slots e, accepted-iff s slots .0 e .3)
 
--- ==== "The screen reports a set only with a true finding, and then no plan for that set is accepted."
+-- ==== Rule R9.6: where the screen finds something, no plan for the set is accepted.
 pub finding-is-final : (s : Set) → (findingOf s ≡ finding.Nothing → ⊥) → (slots : List ℕ) → verdictOf s slots ≡ verdict.Accepted → ⊥
 finding-is-final s h slots e = let w = accepted-iff s slots .0 e in h (no-finding s (w .0) slots (w .3))

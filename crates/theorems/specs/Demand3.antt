@@ -1,5 +1,5 @@
 -- Demand 3: what runs of the dispatcher give each job.
-use mathlib.Core.Path.{_≡_, sym, ap, _∙_, fun-ext}
+use mathlib.Core.Path.{_≡_, refl, sym, ap, _∙_, fun-ext}
 use mathlib.Core.Bool.{Bool, true, false, _||_}
 use mathlib.Core.List.{List, []}
 use mathlib.Core.Logic.{_⊎_, inl, inr}
@@ -7,17 +7,17 @@ use Prim.Native.Nat.{ℕ, suc, _+_, _-_, _≤_, _<_}
 use native.Mathlib.Omega.{arith}
 use lib.Dec.{eqb}
 use lib.ListN.{getD, length}
-use borrow.Author.Tests.{le-leb, lt-ltb}
-use Rattle.vocabulary.specs.Test.{pick, fails}
-use Rattle.vocabulary.specs.Count.{count, count-mono}
+use Rattle.vocabulary.specs.Test.{pick, clash, fails}
+use Rattle.vocabulary.specs.Count.{count, count-same, count-mono}
 use Rattle.vocabulary.specs.Table.{getD-table}
 use Rattle.vocabulary.specs.Bits.{has}
-use Rattle.kinds.specs.Tasks.{Tasks, Patterns, Set, running, deadline, fromTask, toTask, pairCount}
-use Rattle.kinds.specs.Jobs.{release, due, inWindow}
+use Rattle.kinds.specs.Tasks.{Patterns, Set, running, deadline, fromTask, toTask, pairCount}
+use Rattle.kinds.specs.Jobs.{release, inWindow}
 use Rattle.kinds.specs.Links.{linkFrom, linkTo}
 use Rattle.kinds.specs.Plans.{planOf}
 use Rattle.kinds.specs.Valid.{Valid, InSomeWindow}
 use Rattle.kinds.proofs.SoundFacts.{sound-facts}
+use Rattle.laws.specs.Windows.{window-yes, window-facts}
 use Rattle.judge.specs.declared.Verdict.the-variants as verdict
 use Rattle.judge.specs.Judgement.{verdictOf}
 use Rattle.dispatcher.specs.declared.State.{State}
@@ -28,7 +28,7 @@ use Rattle.dispatcher.specs.Bytes.{bytesOf, stateOf, unclear}
 use Rattle.dispatcher.proofs.StateBytes.{clear-state, possible-round-trip}
 use Rattle.theorems.specs.Demand3Terms.{planned, Playable, ticksPlanned, ticksGiven, AllPlannedBefore, NotHeardBefore, TickGiven, Right}
 use Rattle.theorems.specs.Demand3Terms.{Fits, LowReports, GoesOn, Rows, playCalls, takenCalls, Call, stepCalls, rightCalls, reportsOf, runOf}
-use Rattle.theorems.specs.OneTask.{givesAlone, gives-wanted, same-gives, after-end, whole-share}
+use Rattle.theorems.specs.OneTask.{givesAlone, gives-wanted, same-gives, after-end, until-end}
 use Rattle.theorems.specs.OneTask.{releasedAt, toldAt, as-alone, ends-alone, is-released, not-released}
 use Rattle.theorems.specs.Demand3Plans.{plan-playable, plan-right, always-possible, step-goes-on}
 use Rattle.theorems.specs.Demand3Calls.{without-refused, step-stays, taken-are-right, calls-run, right-low}
@@ -38,32 +38,43 @@ same-reports : (i : ℕ) (reports reports′ : ℕ → ℕ) → ((n : ℕ) → h
 unfolding toldAt
 same-reports i reports reports′ same = fun-ext same
 
--- a time from a job's release up to its due time lies in its window
-in-window : (u : Tasks) (i k t : ℕ) → release u i k ≤ t → t < release u i k + deadline u i → inWindow u i k t ≡ true
-unfolding inWindow due
-in-window u i k t a b = rw (le-leb (release u i k) t a, lt-ltb t (release u i k + deadline u i) b)
-
--- ==== Demand 3: "From an accepted plan, with plan, tasks and processor count kept and each step taking the last state: for any number of ticks (a refused
--- step is none) and any reports of early finish, every job whose deadline has passed, and that was not heard to finish before its last planned tick, has
--- had exactly its planned ticks; no job gets more, or any after it is heard to finish; none runs before a predecessor's given ticks are over. Two runs that
--- differ only in other tasks' reports give a task the same ticks."
+-- ==== Demand 3, rules R13.3 to R13.6: from an accepted plan, whatever is reported and however long it is played, a job that is not heard to finish early has
+-- its planned ticks by its deadline, no job gets more or any after it is heard to finish, links are kept, and a task's ticks hang on its own reports only.
 
 -- First what holds of any play, whatever its rows: `reports n` is the report that step n is handed, and `gives y reports i n` says that task i has tick n.
 module _ (y : Play) (f : Playable y) (i : ℕ) (l : i < y .tasks .count) (reports : ℕ → ℕ) where
-  -- A job whose planned ticks in its window all lie before e, and that is not heard to finish before tick e - 1, has had all of them when its deadline has
-  -- passed. With the least such e, tick e - 1 is its last planned tick.
-  pub all-planned : (k e : ℕ) → AllPlannedBefore y i k e → NotHeardBefore y reports i k e → ticksGiven y reports i k ≡ ticksPlanned y i k
-  all-planned k e last early =
-      rw (fun-ext (as-alone y f i l reports))
-      (whole-share (planned y i) (releasedAt y i) (toldAt reports i) (release (y .tasks) i k) (deadline (y .tasks) i) e (is-released y f i l k)
-      (λ t a b. sym (ends-alone y f i l reports t) ∙ early t a b)
-      (λ t a b c. fails (λ p. (let z = last t (in-window (y .tasks) i k t a c) p in omega arith))))
-
-  -- Every tick given is a planned one,
+  -- Every tick given is a planned one.
   pub only-planned : (t : ℕ) → gives y reports i t ≡ true → planned y i t ≡ true
   only-planned t g = gives-wanted (planned y i) (releasedAt y i) (toldAt reports i) t (sym (as-alone y f i l reports t) ∙ g)
 
-  -- so no stretch of time, a job's window among them, has more given ticks than planned ones.
+  -- A job that was not heard to finish before tick t is given tick t exactly if it is planned.
+  pub as-planned : (k t : ℕ) → release (y .tasks) i k ≤ t
+      → ((x : ℕ) → release (y .tasks) i k ≤ x → x < t → finishes y reports i x ≡ false)
+      → gives y reports i t ≡ planned y i t
+  as-planned k t a early =
+      as-alone y f i l reports t
+      ∙ until-end (planned y i) (releasedAt y i) (toldAt reports i) (release (y .tasks) i k) t (is-released y f i l k) a
+      (λ x b c. sym (ends-alone y f i l reports x) ∙ early x b c)
+
+  -- So a job whose planned ticks in its window all lie before e, and that is not heard to finish before tick e - 1, is given exactly its planned ticks, tick
+  -- by tick, these and no others. With the least such e, tick e - 1 is its last planned tick.
+  pub each-planned : (k e : ℕ) → AllPlannedBefore y i k e → NotHeardBefore y reports i k e
+      → (t : ℕ) → inWindow (y .tasks) i k t ≡ true → gives y reports i t ≡ planned y i t
+  each-planned k e last early t w = go (planned y i t) refl
+    where
+      go : (b : Bool) → planned y i t ≡ b → gives y reports i t ≡ planned y i t
+      go true p =
+          let z : t < e = last t w p in
+          as-planned k t (window-facts (y .tasks) i k t w .0) (λ x a b. early x a (omega arith))
+      go false p = fails (λ g. clash (only-planned t g) p) ∙ sym p
+
+  -- They are as many when its deadline has passed.
+  pub all-planned : (k e : ℕ) → AllPlannedBefore y i k e → NotHeardBefore y reports i k e → ticksGiven y reports i k ≡ ticksPlanned y i k
+  all-planned k e last early =
+      count-same (gives y reports i) (planned y i) (release (y .tasks) i k) (release (y .tasks) i k) (deadline (y .tasks) i)
+      (λ d c. each-planned k e last early (release (y .tasks) i k + d) (window-yes (y .tasks) i k d c))
+
+  -- No stretch of time, a job's window among them, has more given ticks than planned ones.
   pub never-more : (a n : ℕ) → count (gives y reports i) a n ≤ count (planned y i) a n
   never-more a n = count-mono (gives y reports i) (planned y i) a n (λ t b. only-planned (a + t))
 

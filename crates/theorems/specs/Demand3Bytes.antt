@@ -44,7 +44,7 @@ module _ (tasks slots : List ℕ) (fitting : takenOf tasks .fits ≡ true) where
   starts-in-bytes e b l = rw (fitting, eq-eqb (length b) 21 l, e)
 
   -- a step that a set's state allows is taken from the state's bytes
-  taken-in-bytes : (state : State) (report : ℕ) (out : List ℕ) → unclear (bytesOf state) ≡ false → stateOf (bytesOf state) ≡ state
+  pub taken-in-bytes : (state : State) (report : ℕ) (out : List ℕ) → unclear (bytesOf state) ≡ false → stateOf (bytesOf state) ≡ state
       → Allowed set slots state report out
       → stepFor tasks slots report (bytesOf state) out
       ≡ stepLeaves answer.Shown (bytesOf (stepOf (tickOf set slots state report))) (rowOf (tickOf set slots state report))
@@ -65,21 +65,27 @@ module _ (tasks slots : List ℕ) (fitting : takenOf tasks .fits ≡ true) where
             low = w .low;
           })
 
-  -- No step from the bytes of the run's state, with an output of m bytes and no report bit at or above the task count, is refused: it leaves the bytes of the
-  -- run's next state, and the run's next row in the output.
-  pub goes-on-in-bytes : Fits set slots → (reports : ℕ → ℕ) → LowReports set reports → (n : ℕ) (out : List ℕ) → length out ≡ set .processors
+  -- and one with the report of step n, from the bytes of the state before it, is that step
+  pub step-in-bytes : Fits set slots → (reports : ℕ → ℕ) (n : ℕ) (out : List ℕ) → Allowed set slots (stateAt (playOf set slots) reports n) (reports n) out
       → stepFor tasks slots (reports n) (bytesOf (stateAt (playOf set slots) reports n)) out
       ≡ stepLeaves answer.Shown (bytesOf (stateAt (playOf set slots) reports (suc n))) (shownAt (playOf set slots) reports n)
-  goes-on-in-bytes fits reports low n out l =
+  step-in-bytes fits reports n out w =
       let state : State = stateAt (playOf set slots) reports n in
       let k = bytes-keep set slots fits reports n in
-      let w = allowed-at set slots fits reports n (reports n) out (low n) l in
       let g = step-at set slots fits reports n out w in
       let h = none-refuses set slots state (reports n) out w in
       taken-in-bytes state (reports n) out (k .0) (k .1) w
       ∙ ap (λ (x : State). stepLeaves answer.Shown (bytesOf x) (rowOf (tickOf set slots state (reports n))))
       (ap (λ (x : Stepped). x .state) (sym (h .0) ∙ g .0))
       ∙ ap (stepLeaves answer.Shown (bytesOf (stateAt (playOf set slots) reports (suc n)))) (sym (h .1) ∙ g .1)
+
+  -- No step from the bytes of the run's state, with an output of m bytes and no report bit at or above the task count, is refused: it leaves the bytes of the
+  -- run's next state, and the run's next row in the output.
+  pub goes-on-in-bytes : Fits set slots → (reports : ℕ → ℕ) → LowReports set reports → (n : ℕ) (out : List ℕ) → length out ≡ set .processors
+      → stepFor tasks slots (reports n) (bytesOf (stateAt (playOf set slots) reports n)) out
+      ≡ stepLeaves answer.Shown (bytesOf (stateAt (playOf set slots) reports (suc n))) (shownAt (playOf set slots) reports n)
+  goes-on-in-bytes fits reports low n out l =
+      step-in-bytes fits reports n out (allowed-at set slots fits reports n (reports n) out (low n) l)
 
 -- A start for C that answers 0 was on tasks that are taken, a state of 21 bytes and an accepted plan.
 zero-accepts : (v : Verdict) → judgeAnswers.numberOf v ≡ 0 → v ≡ verdict.Accepted

@@ -13,7 +13,6 @@ use Rattle.vocabulary.specs.Test.{pick, both, same-test}
 use Rattle.vocabulary.specs.Table.{table}
 use Rattle.kinds.specs.Tasks.{Set}
 use Rattle.dispatcher.specs.declared.State.{State}
-use Rattle.dispatcher.specs.declared.Answer.the-variants as answer
 use Rattle.dispatcher.specs.declared.Stepped.{Stepped}
 use Rattle.dispatcher.specs.Answers.{numberOf}
 use Rattle.dispatcher.specs.Refusals.{firstState, steppedOf}
@@ -151,7 +150,7 @@ module _ (s : Set) (slots : List ℕ) (fits : Fits s slots) (reports : ℕ → �
   y = playOf s slots
 
   -- in the state before step n a call is taken exactly where it is right
-  right-allowed : (n : ℕ) (c : Call) → isRight s c ≡ true → Allowed s slots (stateAt y reports n) (c .report) (c .output)
+  pub right-allowed : (n : ℕ) (c : Call) → isRight s c ≡ true → Allowed s slots (stateAt (playOf s slots) reports n) (c .report) (c .output)
   unfolding isRight
   right-allowed n c e =
       let w = both {a = eqb (length (c .output)) (s .processors)} e in

@@ -61,7 +61,7 @@ module _ (s : Set) (slots : List ℕ) (fits : Fits s slots) where
             (record { ran = ap (λ (f : ℕ → Bool). f z) (sym (planned-runs s slots (toTask (s .patterns) k))) ∙ b .planned; within = b .within });
       }
 
-  slot-low : (e : ℕ) → getD slots e 0 ≤ s .tasks .count
+  pub slot-low : (e : ℕ) → getD slots e 0 ≤ s .tasks .count
   slot-low e = ⊎-elim (fits .low e) (λ h. omega (arith, List·getD-eq-default slots 0 h)) (lt-or-le e (length slots))
 
   none-high : (state : State) (report : ℕ) → isHigh (tickOf s slots state report) ≡ false

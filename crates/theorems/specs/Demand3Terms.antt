@@ -113,7 +113,7 @@ pub record Rows (S : Type 0) : Type 0 where
 unfoldable pub withRow : {S : Type 0} → Bool → List ℕ → Rows S → Rows S
 withRow b row rest = record { rows = pick b (row ∷ rest .rows) (rest .rows); state = rest .state }
 
--- "each step taking the last state"
+-- each call on the state that the last one left
 unfoldable pub playCalls : {S C : Type 0} → Caller S C → S → List C → Rows S
 playCalls m s [] = record { rows = []; state = s }
 playCalls m s (c ∷ cs) = withRow (m .takes s c) (m .row s c) (playCalls m (m .next s c) cs)

@@ -1,5 +1,10 @@
+pub mod Demands
 pub mod LinkLaws
 pub mod Foundations
+pub mod LeastCycle
+pub mod NumberPlaces
+pub mod HeadPlaces
+pub mod FileParts
 pub mod Names
 pub mod RuleLaws
 pub mod RulesMeanValid
@@ -7,6 +12,7 @@ pub mod FirstRule
 pub mod Demand2
 pub mod ScreenTimes
 pub mod ScreenTrue
+pub mod Adjusted
 pub mod ScreenJobs
 pub mod ScreenLoad
 pub mod ScreenFinal
@@ -15,5 +21,16 @@ pub mod OneTask
 pub mod Demand3Plans
 pub mod Demand3Calls
 pub mod Demand3
+pub mod Demand3Shown
+pub mod Demand3Heard
+pub mod Demand3Rows
 pub mod Demand3Bytes
+pub mod Demand3ForC
 pub mod Accepted
+pub mod Demand2Bytes
+pub mod ShutOut
+pub mod SameTasks
+pub mod SameVerdict
+pub mod SameFinding
+pub mod SameStep
+pub mod WhatCounts

@@ -1,4 +1,4 @@
--- What each verdict claims, in document 01's words: which rules are kept, which one is broken, and that its evidence is the lowest.
+-- What each verdict claims (docs/RULES.md, section 10): which rules are kept, which one is broken, and that its evidence is the lowest.
 use mathlib.Core.Path.{_≡_}
 use mathlib.Core.Bool.{true, false}
 use mathlib.Core.List.{List, [], _∷_}
@@ -18,27 +18,27 @@ use Rattle.judge.specs.Judgement.{rules}
 use Rattle.vocabulary.specs.Lowest.{Lowest, Lowest2, Lowest3}
 
 -- ---- how each rule is broken at one place
--- 12: "a slot of a lent plan is above the task count"
+-- 12, rule R7.5: the slot at place e is above the task count
 abbrev pub TooHigh : Set → List ℕ → ℕ → Type 0
 TooHigh s slots e = s .tasks .count < getD slots e 0
 
--- 20: "a task twice in one tick": at tick t two processors, q < r, show the same task
+-- 20, rule R10.2: at tick t two processors, q < r, show the same task
 pub record Doubled (p : Plan) (t q r : ℕ) : Type 0 where
   pub order : q < r
   pub busy : slot p t q ≡ 0 → ⊥
   pub same : slot p t r ≡ slot p t q
 
--- 21: "a slot outside its task's windows": "the slot tick c offends if (c − O) mod T, taken as 0 to T − 1, is at least D". H is a multiple of T, so that
--- adding it keeps the remainder, and c + H is not below O
+-- 21, rule R10.3: the slot of tick c lies outside its task's windows. H is a multiple of T, so that adding it keeps the remainder of c − O by T, and c + H is
+-- not below O
 pub record Misplaced (u : Tasks) (p : Plan) (c q : ℕ) : Type 0 where
   pub busy : slot p c q ≡ 0 → ⊥
   pub late : deadline u (slot p c q - 1) ≤ (c + p .cycle - offset u (slot p c q - 1)) % period u (slot p c q - 1)
 
--- 22: "a job's ticks in its window aren't C"
+-- 22, rule R10.4: a job gets more or fewer ticks than its C
 abbrev pub Miscounted : Tasks → Plan → ℕ → ℕ → Type 0
 Miscounted u p i k = ticks u p i k ≡ running u i → ⊥
 
--- 23: "a link is broken": not "every tick of the first job is earlier than every tick of the second"
+-- 23, rule R10.5: a link is not kept
 abbrev pub LinkBroken : Tasks → Patterns → Plan → ℕ → ℕ → ℕ → Type 0
 LinkBroken u v p k q n = LinkKept u p (fromTask v k) (linkFrom u v k q n) (toTask v k) (linkTo u v k q n) → ⊥
 
@@ -85,8 +85,7 @@ KeptBefore s slots n = (m : ℕ) → earlier (numbersOf (rules s slots)) m n ≡
 abbrev pub Nothing : Type 0
 Nothing = Unit {0}
 
--- ---- the rule that is broken, and that the evidence is its lowest: "Lowest means by task, then job; by tick, then processors; by pattern, pair, k."
--- 22 also shows the "ticks it gets". "Only k below H/p is shown as evidence".
+-- ---- the rule that is broken, and that the evidence is its lowest (rule R7.6). 22 also shows how many ticks the job gets, and 23 a k below H/p.
 unfoldable pub Breach : Set → List ℕ → Verdict → Type 0
 Breach s slots verdict.BadSet = sound s ≡ false
 Breach s slots verdict.WrongLength = length slots ≡ s .processors * cycle (s .tasks) → ⊥

@@ -10,7 +10,6 @@ use lib.Dec.{ltb, leb}
 use borrow.Author.Tests.{lt-ltb, le-ltb, le-leb, lt-leb, eq-eqb, ne-eqb}
 use Rattle.vocabulary.specs.Test.{pick, lt-or-le, both, and-true, and-false, and-swap, not-or}
 use Rattle.vocabulary.specs.Least.{some}
-use Rattle.vocabulary.specs.Count.{count, count-same}
 use Rattle.vocabulary.specs.Bits.{has, has-none}
 use Rattle.vocabulary.specs.Remainder.{since}
 use Rattle.kinds.specs.Tasks.{Tasks, period, offset}
@@ -98,17 +97,15 @@ module _ (wanted released told : ℕ → Bool) where
       (stop-next (r + d)
       ∙ rw (free r d e (λ t a c. h t a (omega arith)), h (r + d) (omega arith) (omega arith)) (and-false (not (released (suc (r + d))))))
 
-  -- a job released at r, whose planned ticks lie before e, and that does not end before tick e - 1 is over: it gets all of them
-  pub whole-share : (r n e : ℕ) → released r ≡ true
-      → ((t : ℕ) → r ≤ t → suc t < e → endsAlone wanted released told t ≡ false)
-      → ((t : ℕ) → r ≤ t → e ≤ t → t < r + n → wanted t ≡ false)
-      → count (givesAlone wanted released told) r n ≡ count wanted r n
+  -- a job released at r that has not ended before t gets tick t exactly if it is planned
+  pub until-end : (r t : ℕ) → released r ≡ true → r ≤ t
+      → ((x : ℕ) → r ≤ x → x < t → endsAlone wanted released told x ≡ false)
+      → givesAlone wanted released told t ≡ wanted t
   unfolding givesAlone
-  whole-share r n e h early late = count-same has-tick wanted r r n (λ i l. go i l (lt-or-le (r + i) e))
-    where
-      go : (i : ℕ) → i < n → (r + i < e) ⊎ (e ≤ r + i) → has-tick (r + i) ≡ wanted (r + i)
-      go i l (inl k) = rw (free r i h (λ t a c. early t a (omega arith))) (and-true (wanted (r + i)))
-      go i l (inr k) = rw (late (r + i) (omega arith) k (omega arith))
+  until-end r t h a early =
+      let g : r + (t - r) ≡ t = omega arith in
+      let q : stop t ≡ false = rw g at (free r (t - r) h (λ x b c. early x b (omega arith))) in
+      rw q (and-true (wanted t))
 
 -- reports after a tick do not change what the task has at that tick
 module _ (wanted released told told′ : ℕ → Bool) where

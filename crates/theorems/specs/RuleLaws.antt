@@ -1,4 +1,4 @@
--- Each test of the judge says what document 01's rule says, at every place.
+-- Each test of the judge says what its rule says, at every place.
 use mathlib.Core.Path.{_≡_, refl, ap}
 use mathlib.Core.Bool.{true, not}
 use mathlib.Core.List.{List}

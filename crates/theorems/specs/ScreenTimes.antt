@@ -26,7 +26,7 @@ use Rattle.network.specs.TimesLaws.{ahead, ahead-low, adjusted-release-low, adj
 pub record NoCycle (u : Tasks) (v : Patterns) : Type 0 where
   pub each : (x : ℕ) → x < jobs u → Way (network u v) x x → ⊥
 
--- "signed 32-bit numbers"
+-- numbers of 32 bits with a sign
 pub record Signed32 (z : ℤ) : Type 0 where
   pub low : leZ (subℕ 0 (2 ^ 31)) z ≡ true
   pub high : leZ z (pos (2 ^ 31 - 1)) ≡ true
@@ -43,7 +43,7 @@ sub-signed a h = go (lt-or-le 12000 a)
     go (inl l) = rw (sub-lt 12000 a l) (record { low = le-leb (a - suc 12000) (2 ^ 31 - 1) (omega arith); high = refl })
     go (inr l) = rw (sub-ge 12000 a l) (record { low = refl; high = le-leb (12000 - a) (2 ^ 31 - 1) (omega arith) })
 
--- ==== On a sound set whose links make no cycle, the adjusted releases and deadlines that are computed satisfy document 01's equations for every job
+-- ==== On a sound set whose links make no cycle, the adjusted releases and deadlines that are computed satisfy rules R8.2 and R8.3 for every job
 -- of the cycle (`adjusted-releases`, `adjusted-deadlines`); whatever else satisfies them is the same for every such job (`-only`); and each of them
 -- is a signed 32-bit number, the releases none below 0 (`-fit`).
 module _ (s : Set) (e : sound s ≡ true) (free : NoCycle (s .tasks) (s .patterns)) where

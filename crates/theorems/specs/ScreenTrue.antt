@@ -36,7 +36,7 @@ use Rattle.theorems.specs.ScreenTimes.{NoCycle, adjusted-releases, adjus
 abbrev pub OnCycle : Tasks → Patterns → ℕ → Type 0
 OnCycle u v x = Way (network u v) x x
 
--- "a job's adjusted release + C is over its adjusted deadline", for releases and deadlines that satisfy document 01's equations
+-- a job's adjusted release and C are over its adjusted deadline, for releases and deadlines that satisfy rules R8.2 and R8.3
 pub record Tight (u : Tasks) (v : Patterns) (x : ℕ) : Type 0 where
   pub release : ℕ → ℕ
   pub deadline : ℕ → ℤ
@@ -44,23 +44,23 @@ pub record Tight (u : Tasks) (v : Patterns) (x : ℕ) : Type 0 where
   pub deadlines : AdjustedDeadlines u v deadline
   pub over : ltZ (deadline x) (pos (release x + ownRunning u x)) ≡ true
 
--- "Lowest means by task, then job": job k of task i is a job of the cycle with the property, and none before it has it
+-- Rule R7.6: job k of task i is a job of the cycle with the property, and none before it has it
 pub record LowestJob (u : Tasks) (P : ℕ → Type 0) (i k : ℕ) : Type 0 where
   pub task : i < u .count
   pub job : k < jobsOf u i
   pub is : P (numberOfJob u i k)
   pub before : (x : ℕ) → x < numberOfJob u i k → P x → ⊥
 
--- 10
+-- 10, rule R9.1
 pub record FoundBad (s : Set) : Type 0 where
   pub unsound : sound s ≡ false
 
--- "13: links make a cycle", "lowest job that lies on one"
+-- 13, rule R9.2, with the lowest job that lies on a cycle
 pub record FoundCycle (s : Set) (i k : ℕ) : Type 0 where
   pub is-sound : sound s ≡ true
   pub lowest : LowestJob (s .tasks) (OnCycle (s .tasks) (s .patterns)) i k
 
--- "14: sum of C·H/T is over m·H", "both numbers"
+-- 14, rule R9.3, with both numbers
 pub record FoundOverload (s : Set) (a b : ℕ) : Type 0 where
   pub is-sound : sound s ≡ true
   pub no-cycle : NoCycle (s .tasks) (s .patterns)
@@ -68,14 +68,14 @@ pub record FoundOverload (s : Set) (a b : ℕ) : Type 0 where
   pub slots : b ≡ room s
   pub over : b < a
 
--- 15, "lowest such job"
+-- 15, rule R9.4, with the lowest such job
 pub record FoundTight (s : Set) (i k : ℕ) : Type 0 where
   pub is-sound : sound s ≡ true
   pub no-cycle : NoCycle (s .tasks) (s .patterns)
   pub no-overload : load (s .tasks) ≤ room s
   pub lowest : LowestJob (s .tasks) (Tight (s .tasks) (s .patterns)) i k
 
--- "else no finding"
+-- no finding
 pub record FoundNothing (s : Set) : Type 0 where
   pub is-sound : sound s ≡ true
   pub no-cycle : NoCycle (s .tasks) (s .patterns)
@@ -216,7 +216,7 @@ KeptBefore s n = (m : ℕ) → earlier (numbersOf (screenRules s)) m n ≡ true 
 
 -- where the rules before a finding are kept and its own is broken as it says, the finding is true
 module _ (s : Set) where
-  free : sound s ≡ true → jobs (s .tasks) ≤ lowestCycle s → NoCycle (s .tasks) (s .patterns)
+  pub free : sound s ≡ true → jobs (s .tasks) ≤ lowestCycle s → NoCycle (s .tasks) (s .patterns)
   free e l = record { each = least-none (onCycle (s .tasks) (s .patterns)) (OnCycle (s .tasks) (s .patterns)) (jobs (s .tasks)) (cycle-iff s e) l }
 
   meant : (f : Finding) → KeptBefore s (findingNumber f) → FoundBy s f → Finds s f

@@ -5,7 +5,7 @@ use Rattle.kinds.specs.Tasks.{taskIn}
 use Rattle.judge.specs.declared.Verdict.{Verdict}
 use Rattle.judge.specs.declared.Verdict.the-variants as verdict
 
--- "22: a job's ticks in its window aren't C": its C; 0 for any other verdict
+-- for 22 (rule R10.4) the C of the job; 0 for any other verdict
 unfoldable pub askedBy : Verdict → List ℕ → ℕ
 askedBy verdict.Accepted xs = 0
 askedBy verdict.BadSet xs = 0

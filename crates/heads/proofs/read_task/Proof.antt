@@ -27,26 +27,10 @@ enum-known-r-2 c = search needs
 enum-known-c : tie.Need-enum-known-c
 enum-known-c c = search needs
 
-read-within-requires-3 : tie.Need-read-within-requires-3
-read-within-requires-3 c κs = search needs
-
-enum-known-r-3 : tie.Need-enum-known-r-3
-enum-known-r-3 c = search needs
-
-enum-known-o : tie.Need-enum-known-o
-enum-known-o c = search needs
-
-add-read-within-2 : tie.Need-add-read-within-2
-add-read-within-2 c = omega (arith, got-bounds _ _ _ _ _ _ _ (c .before .before .before .before .before .before .before .before .before .before .before .read-within .ensures) (c .before .before .before .before .before .before .before .before .before .t .given .1))
-
-read-within-requires-4 : tie.Need-read-within-requires-4
-read-within-requires-4 c κs = search needs
-
-enum-known-r-4 : tie.Need-enum-known-r-4
-enum-known-r-4 c = search needs
-
-enum-known-d : tie.Need-enum-known-d
-enum-known-d c = search needs
+read-times-requires : tie.Need-read-times-requires
+read-times-requires c κs =
+    let b = c .before .before .before .before in
+    omega (arith, got-bounds _ _ _ _ _ _ _ (b .before .before .before .read-within .ensures) (b .before .t .given .1))
 
 returns : tie.Need-returns
 unfolding taskFrom andThen
@@ -54,51 +38,26 @@ returns c = simp (← c .before .before .before .read-within .ensures, c .before
 
 returns-2 : tie.Need-returns-2
 unfolding taskFrom andThen
-returns-2 c = simp (← c .before .before .before .before .before .before .before .read-within .ensures, c .before .before .before .before .before .t .given .1, ← c .before .before .before .read-within2 .ensures, c .before .r2 .given .1)
+returns-2 c =
+    let b = c .before .before .before .before in
+    simp (
+      ← b .before .before .before .read-within .ensures,
+      b .before .t .given .1,
+      ← c .before .before .before .read-within2 .ensures,
+      c .before .r2 .given .1,
+    )
 
 returns-3 : tie.Need-returns-3
 unfolding taskFrom andThen
-returns-3 c = let d = c .before .before .before .before in
+returns-3 c =
+    let d = c .before in
     let b = d .before .before .before .before in
     simp (
       ← b .before .before .before .read-within .ensures,
       b .before .t .given .1,
       ← d .before .before .before .read-within2 .ensures,
       d .before .c .given .1,
-      ← c .before .before .before .read-within3 .ensures,
-      c .before .r3 .given .1,
-    )
-
-returns-4 : tie.Need-returns-4
-unfolding taskFrom andThen
-returns-4 c = let e = c .before .before .before .before in
-    let d = e .before .before .before .before in
-    let b = d .before .before .before .before in
-    simp (
-      ← b .before .before .before .read-within .ensures,
-      b .before .t .given .1,
-      ← d .before .before .before .read-within2 .ensures,
-      d .before .c .given .1,
-      ← e .before .before .before .read-within3 .ensures,
-      e .before .o .given .1,
-      ← c .before .before .before .read-within4 .ensures,
-      c .before .r4 .given .1,
-    )
-
-returns-5 : tie.Need-returns-5
-unfolding taskFrom andThen
-returns-5 c = let e = c .before .before .before .before in
-    let d = e .before .before .before .before in
-    let b = d .before .before .before .before in
-    simp (
-      ← b .before .before .before .read-within .ensures,
-      b .before .t .given .1,
-      ← d .before .before .before .read-within2 .ensures,
-      d .before .c .given .1,
-      ← e .before .before .before .read-within3 .ensures,
-      e .before .o .given .1,
-      ← c .before .before .before .read-within4 .ensures,
-      c .before .d .given .1,
+      ← c .read-times .ensures,
     )
 
 pub read-task-spec : {M : Type 1} → statement M
@@ -112,15 +71,7 @@ read-task-spec =
     read-within-requires-2
     enum-known-r-2
     enum-known-c
-    read-within-requires-3
-    enum-known-r-3
-    enum-known-o
-    add-read-within-2
-    read-within-requires-4
-    enum-known-r-4
-    enum-known-d
+    read-times-requires
     returns
     returns-2
-    returns-3
-    returns-4
-    returns-5)
+    returns-3)

@@ -1,5 +1,5 @@
 use native.Mathlib.Omega.{arith}
-use borrow.Author.Tests.{eq-eqb, ne-eqb, le-leb}
+use borrow.Author.Tests.{eq-eqb, ne-eqb, le-leb, lt-leb}
 use Rattle.vocabulary.specs.StopsAndZeros.{stopped, passed}
 use Rattle.kinds.specs.Sound.{headingFits}
 use borrow.Author.Needs.{needs}
@@ -23,7 +23,7 @@ returns-3 c =
     rw (
       passed (c .before .before .before .is-rising .ensures) (c .before .before .if1 .left),
       ne-eqb _ _ (c .before .if2 .left),
-      c .if3 .taken,
+      lt-leb 1 (c .before .before .before .before .args .pairs) (c .if3 .taken),
     )
 
 wide-requires : tie.Need-wide-requires
@@ -38,7 +38,7 @@ returns-4 c =
     rw (
       passed (c .before .before .before .before .is-rising .ensures) (c .before .before .before .if1 .left),
       ne-eqb _ _ (c .before .before .if2 .left),
-      le-leb 1 (c .before .before .before .before .before .args .pairs) (omega arith),
+      le-leb 1 (c .before .before .before .before .before .args .pairs) (c .before .if3 .left),
       c .wide .ensures .0,
     )
 

@@ -1,5 +1,4 @@
 use borrow.Author.Tests.{not-true, not-false}
-use native.Mathlib.Omega.{arith}
 use Rattle.vocabulary.specs.StopsAndZeros.{stopped, passed}
 use Rattle.kinds.specs.SoundByTests.{few-tasks, not-opening, not-tasks, not-cycle, not-patterns-few, patterns-asked, not-patterns, too-many, all-in, no-cycle}
 use borrow.Author.Needs.{needs}
@@ -27,9 +26,6 @@ returns-3 c = no-cycle _ (not-cycle _ (passed (c .before .before .before .before
 returns-4 : tie.Need-returns-4
 returns-4 c = no-cycle _ (not-patterns-few _ (passed (c .before .before .before .before .before .before .before .before .before .before .before .opening-fits .ensures) (c .before .before .before .before .before .before .before .before .before .before .if1 .left)) (passed (c .before .before .before .before .before .before .before .tasks-fit .ensures) (c .before .before .before .before .before .before .if2 .left)) (c .before .before .before .cycle-of .ensures) (c .before .if3 .left) (c .if4 .taken))
 
-cast-patterns-fit : tie.Need-cast-patterns-fit
-cast-patterns-fit c = omega (arith, few-tasks _ _ _ (passed (c .before .before .before .before .before .before .before .before .before .before .before .opening-fits .ensures) (c .before .before .before .before .before .before .before .before .before .before .if1 .left)))
-
 patterns-fit-requires : tie.Need-patterns-fit-requires
 patterns-fit-requires c κs = patterns-asked _ (passed (c .before .before .before .before .before .before .before .before .before .before .before .before .before .before .before .opening-fits .ensures) (c .before .before .before .before .before .before .before .before .before .before .before .before .before .before .if1 .left)) (passed (c .before .before .before .before .before .before .before .before .before .before .before .tasks-fit .ensures) (c .before .before .before .before .before .before .before .before .before .before .if2 .left)) (c .before .before .before .before .before .before .before .cycle-of .ensures) (c .before .before .before .before .before .if3 .left) (c .before .before .before .before .if4 .left)
 
@@ -53,7 +49,6 @@ sound-cycle-spec =
     cycle-of-requires
     returns-3
     returns-4
-    cast-patterns-fit
     patterns-fit-requires
     returns-5
     returns-6

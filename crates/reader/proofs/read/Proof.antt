@@ -16,8 +16,8 @@ refuse-requires c κs = search needs
 enum-known-f : tie.Need-enum-known-f
 enum-known-f c = search needs
 
-set-of-requires : tie.Need-set-of-requires
-set-of-requires c κs = search needs
+of-requires : tie.Need-of-requires
+of-requires c κs = search needs
 
 close-file-requires : tie.Need-close-file-requires
 close-file-requires c κs = search needs
@@ -26,7 +26,7 @@ returns : tie.Need-returns
 returns c = c .refuse .ensures ∙ read-refused _ _ _ (c .before .before .before .before .read-head .ensures) (c .before .before .r .given .1)
 
 returns-2 : tie.Need-returns-2
-returns-2 c = read-closed _ _ _ (c .before .before .before .before .before .read-head .ensures) (c .before .before .before .f .given .1) (c .before .set-of .ensures) (c .close-file .ensures)
+returns-2 c = read-closed _ _ _ (c .before .before .before .before .before .read-head .ensures) (c .before .before .before .f .given .1) (c .before .of .ensures) (c .close-file .ensures)
 
 pub read-spec : {M : Type 1} → statement M
 read-spec =
@@ -36,7 +36,7 @@ read-spec =
     enum-known-r
     refuse-requires
     enum-known-f
-    set-of-requires
+    of-requires
     close-file-requires
     returns
     returns-2)

@@ -16,8 +16,8 @@ take-none-requires c κs = search needs
 enum-known-f : tie.Need-enum-known-f
 enum-known-f c = search needs
 
-set-of-requires : tie.Need-set-of-requires
-set-of-requires c κs = search needs
+of-requires : tie.Need-of-requires
+of-requires c κs = search needs
 
 take-whole-requires : tie.Need-take-whole-requires
 take-whole-requires c κs = search needs
@@ -26,7 +26,7 @@ returns : tie.Need-returns
 returns c = c .take-none .ensures ∙ taken-refused _ _ _ (c .before .before .before .read-head .ensures) (c .before .enum-told .given .1)
 
 returns-2 : tie.Need-returns-2
-returns-2 c = taken-closed _ _ _ (c .before .before .before .before .before .read-head .ensures) (c .before .before .before .f .given .1) (c .before .set-of .ensures) (c .take-whole .ensures)
+returns-2 c = taken-closed _ _ _ (c .before .before .before .before .before .read-head .ensures) (c .before .before .before .f .given .1) (c .before .of .ensures) (c .take-whole .ensures)
 
 pub take-head-spec : {M : Type 1} → statement M
 take-head-spec =
@@ -36,7 +36,7 @@ take-head-spec =
     enum-told
     take-none-requires
     enum-known-f
-    set-of-requires
+    of-requires
     take-whole-requires
     returns
     returns-2)

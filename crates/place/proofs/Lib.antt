@@ -1,0 +1,4 @@
+pub mod Begun
+pub mod Held
+pub mod HeldStep
+pub mod PlaceLaws
