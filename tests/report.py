@@ -58,8 +58,8 @@ over. What one task reports changes no tick of another.''',
       ('theorems/specs/Demand3.antt', 'in-order', 'no job runs before those that it waits for are over'),
       ('theorems/specs/Demand3.antt', 'own-reports-only', "other tasks' early finishes change nothing for a task"),
       ('theorems/specs/Demand3Shown.antt', 'shown-once', 'no task is shown on two processors in one tick'),
-      ('theorems/specs/Demand3ForC.antt', 'plays-for-C', 'all of this holds of the rows that the controller gets from its calls, however many, refused ones among them'),
-      ('theorems/specs/Demand3ForC.antt', 'own-reports-for-C', 'the last of it too'),
+      ('theorems/specs/Demands.antt', 'every-play-keeps', 'all of this holds of the rows that the controller gets from its calls, however many, refused ones among them'),
+      ('theorems/specs/Demands.antt', 'own-reports-decide', 'the last of it too'),
       ('theorems/specs/Demand3Bytes.antt', 'refused-in-bytes', 'and a refused step leaves state and output as they are, whatever they were')]),
 ]
 
