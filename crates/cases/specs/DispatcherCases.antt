@@ -19,7 +19,7 @@ use Rattle.kinds.specs.Links.{common, linkFrom, linkTo, repeats, linksOf, links
 use Rattle.kinds.specs.Sound.{attributesFit, taskFits, pairKey, pairFits, patternKey, headingFits, patternFits, openingFits, sound}
 use Rattle.kinds.specs.Plans.{slot, shows, shown, awake, runs, ticks}
 use Rattle.numbers.specs.Numbers.{numberAt, held, gotAt, andThen}
-use Rattle.heads.specs.Tables.{timesFrom, taskFrom, onTask, tasksFrom, twoAt, onTwo, pairsFrom, onTwoHeading, headingAt, onHeading, onPairs, patternFrom, onPattern, patternsFrom}
+use Rattle.heads.specs.Tables.{timesFrom, taskFrom, onTask, tasksFrom, twoAt, onTwo, pairsFrom, countFrom, headingAt, onHeading, onPairs, patternFrom, onPattern, patternsFrom}
 use Rattle.heads.specs.Heads.{openingOf, middleFrom, onOpening, onTasks, onMiddle, onPatterns, headFrom}
 use Rattle.reader.specs.Files.{takeHead, takenOf}
 use Rattle.slots.specs.High.{high}
@@ -186,7 +186,7 @@ unfolding dispatcherCases state fresh stateBytes other smallSet twoHead lateHead
     smallSlots reply taskNumbers rawHeadings rawPairs lentSet silence reportAfter least all firstOf count total table has pack lcm lcmOf holds rises
     pairsIn cycle jobsOf jobsBefore jobs cycleFits release common linkFrom linkTo repeats linksOf links spansOf linksIn attributesFit taskFits pairKey
     pairFits patternKey headingFits patternFits openingFits sound slot shows shown awake runs ticks numberAt held gotAt andThen timesFrom taskFrom onTask tasksFrom
-    twoAt onTwo pairsFrom onTwoHeading headingAt onHeading onPairs patternFrom onPattern patternsFrom openingOf middleFrom onOpening onTasks onMiddle onPatterns headFrom
+    twoAt onTwo pairsFrom countFrom headingAt onHeading onPairs patternFrom onPattern patternsFrom openingOf middleFrom onOpening onTasks onMiddle onPatterns headFrom
     takeHead takenOf high twin mated clashes strays strayed miscounts miscounted against bars broken breaks brokenPair brokenPattern highAt twiceAt
     outsideAt wrongAt brokenAt planRules rules verdictOf releases heard doneAt doneOf asleep byteOf rowOf standsAt inRow ranOf afterOf stepOf onVerdict
     startedOf impossible overreports highSlot isHigh highPlace stepRules answerBy ifShown lengthsFit answerOf steppedOf leftOf bytes number bytesOf

@@ -17,7 +17,7 @@ use Rattle.kinds.specs.Links.{common, linkFrom, linkTo, repeats, linksOf, links
 use Rattle.kinds.specs.Sound.{attributesFit, taskFits, pairKey, pairFits, patternKey, headingFits, patternFits, openingFits, sound}
 use Rattle.kinds.specs.Plans.{slot, shows, shown, awake, runs, ticks}
 use Rattle.numbers.specs.Numbers.{numberAt, held, gotAt, andThen}
-use Rattle.heads.specs.Tables.{timesFrom, taskFrom, onTask, tasksFrom, twoAt, onTwo, pairsFrom, onTwoHeading, headingAt, onHeading, onPairs, patternFrom, onPattern, patternsFrom}
+use Rattle.heads.specs.Tables.{timesFrom, taskFrom, onTask, tasksFrom, twoAt, onTwo, pairsFrom, countFrom, headingAt, onHeading, onPairs, patternFrom, onPattern, patternsFrom}
 use Rattle.heads.specs.Heads.{openingOf, middleFrom, onOpening, onTasks, onMiddle, onPatterns, headFrom}
 use Rattle.reader.specs.Files.{takeHead, takenOf}
 use Rattle.slots.specs.High.{high}
@@ -129,7 +129,7 @@ pub judge-cases : Answered judgeCases
 unfolding judgeCases onSome full lateBy overEnd most mostSlots linked linkedSlots twoThenOne small smallHead smallSlots reply taskNumbers rawHeadings
     rawPairs lentSet least all firstOf count total table gather lcm lcmOf holds rises pairsIn cycle jobsOf jobsBefore jobs cycleFits release common
     linkFrom linkTo repeats linksOf links spansOf linksIn attributesFit taskFits pairKey pairFits patternKey headingFits patternFits openingFits sound
-    slot shows shown awake runs ticks numberAt held gotAt andThen timesFrom taskFrom onTask tasksFrom twoAt onTwo pairsFrom onTwoHeading headingAt onHeading
+    slot shows shown awake runs ticks numberAt held gotAt andThen timesFrom taskFrom onTask tasksFrom twoAt onTwo pairsFrom countFrom headingAt onHeading
     onPairs patternFrom onPattern patternsFrom openingOf middleFrom onOpening onTasks onMiddle onPatterns headFrom takeHead takenOf high twin mated clashes strays strayed
     miscounts miscounted against bars broken breaks brokenPair brokenPattern highAt twiceAt outsideAt wrongAt brokenAt planRules rules verdictOf
     judgedOf

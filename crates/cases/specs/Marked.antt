@@ -22,7 +22,7 @@ use Rattle.kinds.specs.Links.{common, linkFrom, linkTo, repeats, linksOf, links
 use Rattle.kinds.specs.Sound.{attributesFit, taskFits, pairKey, pairFits, patternKey, headingFits, patternFits, openingFits, sound}
 use Rattle.kinds.specs.Plans.{slot, shows, shown, awake, runs, ticks}
 use Rattle.numbers.specs.Numbers.{numberAt, held, gotAt, andThen}
-use Rattle.heads.specs.Tables.{timesFrom, taskFrom, onTask, tasksFrom, twoAt, onTwo, pairsFrom, onTwoHeading, headingAt, onHeading, onPairs, patternFrom, onPattern, patternsFrom}
+use Rattle.heads.specs.Tables.{timesFrom, taskFrom, onTask, tasksFrom, twoAt, onTwo, pairsFrom, countFrom, headingAt, onHeading, onPairs, patternFrom, onPattern, patternsFrom}
 use Rattle.heads.specs.Heads.{openingOf, middleFrom, onOpening, onTasks, onMiddle, onPatterns, headFrom}
 use Rattle.reader.specs.Files.{slotsFrom, onSlots, onHead, readOf}
 use Rattle.slots.specs.High.{high}
@@ -138,7 +138,7 @@ unfolding cases fileA setA slotsA setC slotsC setD slotsD setG setH setI setJ se
     silence reportAfter least all count total table join gather has pack lcm lcmOf reach loops longest.most longest.entry longest.rounds soonest.fewest
     soonest.due soonest.soonest holds rises pairsIn cycle jobsOf jobsBefore jobs cycleFits release due inWindow numberOfJob taskOfJob jobOfJob common
     linkFrom linkTo repeats linksOf links inner spansOf linksIn attributesFit taskFits pairKey pairFits patternKey headingFits patternFits openingFits
-    sound slot shows shown awake runs ticks numberAt held gotAt andThen timesFrom taskFrom onTask tasksFrom twoAt onTwo pairsFrom onTwoHeading headingAt onHeading
+    sound slot shows shown awake runs ticks numberAt held gotAt andThen timesFrom taskFrom onTask tasksFrom twoAt onTwo pairsFrom countFrom headingAt onHeading
     onPairs patternFrom onPattern patternsFrom openingOf middleFrom onOpening onTasks onMiddle onPatterns headFrom slotsFrom onSlots onHead readOf high twin mated clashes
     strays strayed miscounts miscounted against bars broken breaks brokenPair brokenPattern highAt twiceAt outsideAt wrongAt brokenAt firstOf planRules
     rules verdictOf pairLinks patternLinks cycleLinks linkStarts linkEnds network ownRelease ownDue ownRunning releaseWeight adjustedRelease

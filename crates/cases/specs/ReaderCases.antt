@@ -11,7 +11,7 @@ use Rattle.kinds.specs.Limits.{holds, rises}
 use Rattle.kinds.specs.Cycle.{cycle, jobsOf, jobsBefore, jobs, cycleFits}
 use Rattle.kinds.specs.Links.{spansOf, linksIn}
 use Rattle.numbers.specs.Numbers.{numberAt, held, gotAt, andThen}
-use Rattle.heads.specs.Tables.{timesFrom, taskFrom, onTask, tasksFrom, twoAt, onTwo, pairsFrom, onTwoHeading, headingAt, onHeading, onPairs, patternFrom, onPattern, patternsFrom}
+use Rattle.heads.specs.Tables.{timesFrom, taskFrom, onTask, tasksFrom, twoAt, onTwo, pairsFrom, countFrom, headingAt, onHeading, onPairs, patternFrom, onPattern, patternsFrom}
 use Rattle.heads.specs.Heads.{openingOf, middleFrom, onOpening, onTasks, onMiddle, onPatterns, headFrom}
 use Rattle.reader.specs.Files.{slotsFrom, onSlots, onHead, readOf}
 use Rattle.cases.specs.Samples.{small, fromSeven, toSeven}
@@ -162,6 +162,6 @@ readerCases =
 -- ==== The reader's definition answers each of them so.
 pub reader-cases : Answered readerCases
 unfolding readerCases small patterned coprime from fromSeven toSeven onePair eight amongSeven reply taskNumbers least all total table lcm lcmOf holds
-    rises cycle jobsOf jobsBefore jobs cycleFits spansOf linksIn numberAt held gotAt andThen timesFrom taskFrom onTask tasksFrom twoAt onTwo pairsFrom onTwoHeading
+    rises cycle jobsOf jobsBefore jobs cycleFits spansOf linksIn numberAt held gotAt andThen timesFrom taskFrom onTask tasksFrom twoAt onTwo pairsFrom countFrom
     headingAt onHeading onPairs patternFrom onPattern patternsFrom openingOf middleFrom onOpening onTasks onMiddle onPatterns headFrom slotsFrom onSlots onHead readOf
 reader-cases = refl

@@ -21,7 +21,7 @@ use Rattle.kinds.specs.Jobs.{release, due, numberOfJob, taskOfJob, jobOfJob}
 use Rattle.kinds.specs.Links.{common, linkFrom, linkTo, repeats, linksOf, links, inner, spansOf, linksIn}
 use Rattle.kinds.specs.Sound.{attributesFit, taskFits, pairKey, pairFits, patternKey, headingFits, patternFits, openingFits, sound}
 use Rattle.numbers.specs.Numbers.{numberAt, held, gotAt, andThen}
-use Rattle.heads.specs.Tables.{timesFrom, taskFrom, onTask, tasksFrom, twoAt, onTwo, pairsFrom, onTwoHeading, headingAt, onHeading, onPairs, patternFrom, onPattern, patternsFrom}
+use Rattle.heads.specs.Tables.{timesFrom, taskFrom, onTask, tasksFrom, twoAt, onTwo, pairsFrom, countFrom, headingAt, onHeading, onPairs, patternFrom, onPattern, patternsFrom}
 use Rattle.heads.specs.Heads.{openingOf, middleFrom, onOpening, onTasks, onMiddle, onPatterns, headFrom}
 use Rattle.reader.specs.Files.{takeHead, takenOf}
 use Rattle.judge.specs.Judgement.{rules, verdictOf}
@@ -231,7 +231,7 @@ unfolding setCases opened tasksOn oneTask patterned paired seven manyPatterns ma
     loops longest.most longest.entry longest.rounds soonest.fewest soonest.due soonest.soonest holds rises pairsIn cycle jobsOf jobsBefore jobs
     cycleFits release due numberOfJob taskOfJob jobOfJob common linkFrom linkTo repeats linksOf links inner spansOf linksIn attributesFit taskFits
     pairKey pairFits patternKey headingFits patternFits openingFits sound numberAt held gotAt andThen timesFrom taskFrom onTask tasksFrom twoAt onTwo pairsFrom
-    onTwoHeading headingAt onHeading onPairs patternFrom onPattern patternsFrom openingOf middleFrom onOpening onTasks onMiddle onPatterns headFrom takeHead takenOf rules
+    countFrom headingAt onHeading onPairs patternFrom onPattern patternsFrom openingOf middleFrom onOpening onTasks onMiddle onPatterns headFrom takeHead takenOf rules
     verdictOf pairLinks patternLinks cycleLinks linkStarts linkEnds network ownRelease ownDue ownRunning releaseWeight adjustedRelease
     adjustedDeadline onCycle load room tight screenRules findingOf adjustRules adjustedOf releasesLeft deadlinesLeft screenedOf adjustedHead
     releasesKept deadlinesKept

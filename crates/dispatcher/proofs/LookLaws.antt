@@ -7,8 +7,8 @@ use Prim.Native.Nat.{ℕ, _+_, _-_, _*_, _<_, _≤_}
 use native.Mathlib.Nat.{mul-le-mul, mul-comm, le-refl, le-of-dvd, lt-of-lt-of-le}
 use native.Mathlib.Omega.{arith}
 use lib.Dec.{eqb, ltb, leb}
-use lib.ListN.{getD, length, take, drop, length-take, length-drop}
-use lib.Seq.{getD-take, getD-drop}
+use lib.ListN.{getD, length, take, drop}
+use Rattle.vocabulary.specs.Prefix.{part-length, part-entry}
 use borrow.Author.Tests.{le-leb, lt-leb, leb-false, eq-eqb, ne-eqb, eqb-true}
 use Rattle.vocabulary.specs.Test.{pick, both}
 use Rattle.vocabulary.specs.Least.{least, least-is, least-same, some-same}
@@ -61,10 +61,10 @@ module _ (xs : List ℕ) (at m : ℕ) (within : at + m ≤ length xs) where
   part-is = rw (le-leb _ _ within)
 
   pub part-long : {row : List ℕ} → row ≡ partOf xs at m → length row ≡ m
-  part-long e = ap length (e ∙ part-is) ∙ length-take m (drop at xs) ∙ omega (arith, length-drop at xs)
+  part-long e = ap length (e ∙ part-is) ∙ part-length xs at m within
 
   pub part-at : {row : List ℕ} → row ≡ partOf xs at m → (q : ℕ) → q < m → getD row q 0 ≡ getD xs (at + q) 0
-  part-at e q l = ap (λ (r : List ℕ). getD r q 0) (e ∙ part-is) ∙ getD-take m (drop at xs) q 0 l ∙ getD-drop at xs q 0
+  part-at e q l = ap (λ (r : List ℕ). getD r q 0) (e ∙ part-is) ∙ part-entry 0 xs at m q l
 
 -- ---- the chain's ways out
 module _ (right fits bad : Bool) (k : OneTick) where

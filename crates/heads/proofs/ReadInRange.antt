@@ -1,5 +1,5 @@
 -- What was let through keeps its rules.
-use mathlib.Core.Bool.{Bool, true, false, _&&_}
+use mathlib.Core.Bool.{Bool, true, false}
 use mathlib.Core.Path.{_≡_, refl, sym, ap, _∙_, subst}
 use mathlib.Core.List.{List}
 use Prim.Native.Nat.{ℕ, _+_, _<_, _≤_}
@@ -23,12 +23,11 @@ use Rattle.numbers.specs.declared.Got.the-variants as got
 use Rattle.heads.specs.declared.TaskRead.the-variants as taskRead
 use Rattle.heads.specs.declared.Two.{Two}
 use Rattle.heads.specs.declared.Two.the-variants as two
-use Rattle.heads.specs.declared.Heading.{Heading}
 use Rattle.heads.specs.declared.Heading.the-variants as heading
 use Rattle.heads.specs.declared.Opening.the-variants as opening
 use Rattle.heads.specs.declared.Middle.the-variants as middle
 use Rattle.numbers.specs.Numbers.{numberAt, held, gotAt, andThen}
-use Rattle.heads.specs.Tables.{timesFrom, taskFrom, twoAt, onTwoHeading, headingAt}
+use Rattle.heads.specs.Tables.{timesFrom, taskFrom, twoAt, countFrom, headingAt}
 use Rattle.heads.specs.Heads.{openingOf, middleFrom}
 
 -- a test of equal numbers answers alike
@@ -93,57 +92,52 @@ task-fits s p t q e =
 refused-two : {r : Refusal} {x y q : ℕ} → two.Refused r ≡ two.Both x y q → ⊥
 refused-two e = let z : _≡_ {A = ℕ} 0 1 = cc in omega arith
 
-pub two-fits : (s : List ℕ) (p : ℕ) (low : Key) (la lb : ℕ) (apart : Bool) (x y q : ℕ) → twoAt s p low la lb apart ≡ two.Both x y q → (rises low la lb x y ≡ true) × ((apart && eqb x y) ≡ false)
+pub two-fits : (s : List ℕ) (p : ℕ) (low : Key) (la lb x y q : ℕ) → twoAt s p low la lb ≡ two.Both x y q → rises low la lb x y ≡ true
 unfolding twoAt rises
-two-fits s p low la lb apart x y q e =
+two-fits s p low la lb x y q e =
     let no : (r : Refusal) → two.Refused r ≡ two.Both x y q → ⊥ = λ r w. refused-two w in
     let i = went two.Refused (gotAt s p (firstRange low la) (refusal.Disordered p)) _ (two.Both x y q) no e in
     let j = went two.Refused (gotAt s (i .next) (secondRange low (i .value) lb) (refusal.Disordered (i .next))) _ (two.Both x y q) no (i .on) in
-    let t = missed (apart && eqb (i .value) (j .value)) _ _ _ (j .on) refused-two in
-    let ex : i .value ≡ x = cc (t .1) in
-    let ey : j .value ≡ y = cc (t .1) in
+    let ex : i .value ≡ x = cc (j .on) in
+    let ey : j .value ≡ y = cc (j .on) in
     let r : rises low la lb (i .value) (j .value) ≡ true = rw (let-through _ _ _ _ _ _ (i .is)) (let-through _ _ _ _ _ _ (j .is)) in
-    (same₂ (rises low la lb) ex ey r, same₂ (λ a b. apart && eqb a b) ex ey (t .0))
+    same₂ (rises low la lb) ex ey r
 
-pub two-bounds : (s : List ℕ) (p : ℕ) (low : Key) (la lb : ℕ) (apart : Bool) (x y q : ℕ) {r : Two} → r ≡ twoAt s p low la lb apart → r ≡ two.Both x y q → (x < la) × (y < lb)
+pub two-bounds : (s : List ℕ) (p : ℕ) (low : Key) (la lb x y q : ℕ) {r : Two} → r ≡ twoAt s p low la lb → r ≡ two.Both x y q → (x < la) × (y < lb)
 unfolding rises
-two-bounds s p low la lb apart x y q h e =
-    let w = both {a = holds (firstRange low la) x} (two-fits s p low la lb apart x y q (sym h ∙ e) .0) in
+two-bounds s p low la lb x y q h e =
+    let w = both {a = holds (firstRange low la) x} (two-fits s p low la lb x y q (sym h ∙ e)) in
     (holds-at _ la x (w .0) .1, holds-at _ lb y (w .1) .1)
 
 -- ---- a pattern's heading
 refused-heading : {r : Refusal} {x y c q : ℕ} → heading.Refused r ≡ heading.Of x y c q → ⊥
 refused-heading e = let z : _≡_ {A = ℕ} 0 1 = cc in omega arith
 
--- where a heading was read, its two tasks were
-record Headed (t : Two) (k : ℕ → ℕ → ℕ → Heading) (z : Heading) : Type 0 where
-  first : ℕ
-  second : ℕ
-  next : ℕ
-  is : t ≡ two.Both first second next
-  on : k first second next ≡ z
-
-headed : (t : Two) (k : ℕ → ℕ → ℕ → Heading) (x y c q : ℕ) → onTwoHeading t k ≡ heading.Of x y c q → Headed t k (heading.Of x y c q)
-unfolding onTwoHeading
-headed (two.Both a b p) k x y c q e = record { first = a; second = b; next = p; is = refl; on = e }
-headed (two.Refused r) k x y c q e = absurd (refused-heading e)
-
 some : (l u v : ℕ) → holds (range l u) v ≡ true → leb l v ≡ true
 unfolding holds
 some l u v e = both {a = leb l v} e .0
 
+-- the numbers of a heading, each by the test that let it through
+fits-by : (n : ℕ) (low : Key) (x y c used : ℕ) → holds (firstRange low n) x ≡ true → holds (secondRange low x n) y ≡ true → eqb x y ≡ false → leb 1 c ≡ true
+    → leb (used + c) mostPairs ≡ true → headingFits n low x y c used ≡ true
+unfolding headingFits rises
+fits-by n low x y c used f g h i j = rw (f, g, h, i) j
+
 pub heading-fits : (s : List ℕ) (at : ℕ) (low : Key) (n used x y c q : ℕ) → headingAt s at low n used ≡ heading.Of x y c q → headingFits n low x y c used ≡ true
-unfolding headingAt headingFits
+unfolding headingAt countFrom
 heading-fits s at low n used x y c q e =
-    let i = headed (twoAt s at low n n true) _ x y c q e in
-    let j = went heading.Refused (gotAt s (i .next) (range 1 2097152) (refusal.Disordered (i .next))) _ (heading.Of x y c q) (λ r w. refused-heading w) (i .on) in
-    let t = took (leb (used + j .value) mostPairs) _ _ _ (j .on) refused-heading in
-    let ex : i .first ≡ x = cc (t .1) in
-    let ey : i .second ≡ y = cc (t .1) in
-    let ec : j .value ≡ c = cc (t .1) in
-    let b = two-fits _ _ _ _ _ _ _ _ _ (i .is) in
-    let f : headingFits n low (i .first) (i .second) (j .value) used ≡ true = rw (b .0, b .1, some 1 2097152 (j .value) (let-through _ _ _ _ _ _ (j .is))) (t .0) in
-    same₃ (λ a b d. headingFits n low a b d used) ex ey ec f
+    let no : (r : Refusal) → heading.Refused r ≡ heading.Of x y c q → ⊥ = λ r w. refused-heading w in
+    let i = went heading.Refused (gotAt s at (firstRange low n) (refusal.Disordered at)) _ (heading.Of x y c q) no e in
+    let j = went heading.Refused (gotAt s (i .next) (secondRange low (i .value) n) (refusal.Disordered (i .next))) _ (heading.Of x y c q) no (i .on) in
+    let b = missed (eqb (i .value) (j .value)) _ _ _ (j .on) refused-heading in
+    let k = went heading.Refused (gotAt s (j .next) (range 1 2097152) (refusal.Disordered (j .next))) _ (heading.Of x y c q) no (b .1) in
+    let t = took (leb (used + k .value) mostPairs) _ _ _ (k .on) refused-heading in
+    let ex : i .value ≡ x = cc (t .1) in
+    let ey : j .value ≡ y = cc (t .1) in
+    let ec : k .value ≡ c = cc (t .1) in
+    same₃ (λ a b d. headingFits n low a b d used) ex ey ec
+    (fits-by n low (i .value) (j .value) (k .value) used (let-through _ _ _ _ _ _ (i .is)) (let-through _ _ _ _ _ _ (j .is)) (b .0)
+    (some 1 2097152 (k .value) (let-through _ _ _ _ _ _ (k .is))) (t .0))
 
 -- ---- the numbers before the tasks, and between tasks and patterns
 refused-opening : {r : Refusal} {e n m q : ℕ} → opening.Refused r ≡ opening.Of e n m q → ⊥

@@ -1,5 +1,5 @@
 -- Where tasks, pairs and patterns were read, the tables that they leave keep rule 10, and hold 0 behind what was read.
-use mathlib.Core.Bool.{Bool, true, false}
+use mathlib.Core.Bool.{Bool, true}
 use mathlib.Core.Path.{_≡_, refl, sym, ap, ap₂, _∙_, subst}
 use mathlib.Core.List.{List}
 use Prim.Native.Nat.{ℕ, zero, suc, _+_, _*_, _<_, _≤_}
@@ -102,7 +102,7 @@ module _ (s : List ℕ) (la lb start n : ℕ) (v : List ℕ) where
       let b = pair-there u j x y v f (omega arith) in
       let fx : firstIn v (start + d) ≡ x = ap (λ (i : ℕ). firstIn v i) (sym a) ∙ b .0 in
       let fy : secondIn v (start + d) ≡ y = ap (λ (i : ℕ). secondIn v i) (sym a) ∙ b .1 in
-      let fit : fits d ≡ true = sym (pair-fits v start la lb d key (sym fx) (sym fy) (sym (two-fits s at low la lb false x y (w .next) (w .is) .0))) in
+      let fit : fits d ≡ true = sym (pair-fits v start la lb d key (sym fx) (sym fy) (sym (two-fits s at low la lb x y (w .next) (w .is)))) in
       pairs-done k (d + 1) (j + 1) (w .next) (after x y) t q (omega arith) (omega arith) room (length-set (set u (2 * j) x) (2 * j + 1) y ∙ length-set u (2 * j) x ∙ long)
       (sym (pair-key-more v start d ∙ ap₂ after fx fy))
       (pass-on fits n d passing (omega arith) fit)

@@ -1,5 +1,5 @@
 -- Where reading was not refused: what each turn of it read.
-use mathlib.Core.Bool.{true, false}
+use mathlib.Core.Bool.{true}
 use mathlib.Core.Path.{_≡_, refl, sym}
 use mathlib.Core.List.{List}
 use Prim.Native.Nat.{ℕ, suc, _+_}
@@ -70,14 +70,14 @@ pub record PairsWent (s : List ℕ) (k at : ℕ) (low : Key) (la lb j : ℕ) (u 
   pub x : ℕ
   pub y : ℕ
   pub next : ℕ
-  pub is : twoAt s at low la lb false ≡ two.Both x y next
+  pub is : twoAt s at low la lb ≡ two.Both x y next
   pub rest : pairsFrom s (suc k) at low la lb j u ≡ pairsFrom s k next (after x y) la lb (j + 1) (putPair u j x y)
 
 pub pairs-went : (s : List ℕ) (k at : ℕ) (low : Key) (la lb j : ℕ) (u : List ℕ) (q : ℕ) → pairsFrom s (suc k) at low la lb j u .outcome ≡ outcome.At q → PairsWent s k at low la lb j u
 unfolding pairsFrom onTwo
-pairs-went s k at low la lb j u q e = by (twoAt s at low la lb false) refl e
+pairs-went s k at low la lb j u q e = by (twoAt s at low la lb) refl e
   where
-    by : (r : Two) → twoAt s at low la lb false ≡ r → onTwo r u (λ x y next. pairsFrom s k next (after x y) la lb (j + 1) (putPair u j x y)) .outcome ≡ outcome.At q → PairsWent s k at low la lb j u
+    by : (r : Two) → twoAt s at low la lb ≡ r → onTwo r u (λ x y next. pairsFrom s k next (after x y) la lb (j + 1) (putPair u j x y)) .outcome ≡ outcome.At q → PairsWent s k at low la lb j u
     by (two.Both x y p) h o = record { x = x; y = y; next = p; is = h; rest = rw h }
     by (two.Refused r) h o = absurd (refused-at o)
 

@@ -1,5 +1,4 @@
 -- One turn of each table, and the ways through a head, each by the answers of its parts.
-use mathlib.Core.Bool.{false}
 use mathlib.Core.Path.{_≡_, refl}
 use mathlib.Core.List.{List}
 use Prim.Native.Nat.{ℕ, suc, _+_, _-_, _<_, _≤_}
@@ -53,7 +52,7 @@ tasks-none s n i at u h = rw (none n i h)
 
 -- ---- pairs
 pub pairs-step : (s : List ℕ) (n at : ℕ) (low : Key) (la lb j : ℕ) (u : List ℕ) → j < n → pairsFrom s (n - j) at low la lb j u
-    ≡ onTwo (twoAt s at low la lb false) u λ x y next. pairsFrom s (n - (j + 1)) next (after x y) la lb (j + 1) (putPair u j x y)
+    ≡ onTwo (twoAt s at low la lb) u λ x y next. pairsFrom s (n - (j + 1)) next (after x y) la lb (j + 1) (putPair u j x y)
 unfolding pairsFrom
 pairs-step s n at low la lb j u h = rw (left n j h)
 

@@ -1,5 +1,4 @@
 -- The tables of a plan file: tasks, patterns and their pairs. Each definition reads on from a place, and stops at the first refusal.
-use mathlib.Core.Bool.{Bool, true, false, _&&_}
 use mathlib.Core.List.{List}
 use Prim.Native.Nat.{ℕ, zero, suc, _+_}
 use lib.Dec.{leb, eqb}
@@ -62,13 +61,12 @@ tasksFrom s zero i at u = tasksRead (outcome.At at) u
 tasksFrom s (suc k) i at u = onTask (taskFrom s at) u λ t next. tasksFrom s k (i + 1) next (putTask u i t)
 
 -- ---- two numbers in order
--- Rule R6.14: a number that is out of order is refused at its own place, the second where the first is that of the two before; that two tasks are one is
--- refused at the second.
-unfoldable pub twoAt : List ℕ → ℕ → Key → ℕ → ℕ → Bool → Two
-twoAt s p low limitA limitB apart =
+-- Rule R6.14: a number that is out of order is refused at its own place, the second where the first is that of the two before.
+unfoldable pub twoAt : List ℕ → ℕ → Key → ℕ → ℕ → Two
+twoAt s p low limitA limitB =
     andThen two.Refused (gotAt s p (firstRange low limitA) (refusal.Disordered p)) λ x p₁.
     andThen two.Refused (gotAt s p₁ (secondRange low x limitB) (refusal.Disordered p₁)) λ y p₂.
-    pick (apart && eqb x y) (two.Refused (refusal.Disordered p₁)) (two.Both x y p₂)
+    two.Both x y p₂
 
 -- ---- pairs
 pub record PairsRead : Type 0 where
@@ -86,21 +84,23 @@ onTwo (two.Refused r) u k = pairsRead (outcome.Refused r) u
 unfoldable pub pairsFrom : List ℕ → ℕ → ℕ → Key → ℕ → ℕ → ℕ → List ℕ → PairsRead
 pairsFrom s zero at low limitA limitB j u = pairsRead (outcome.At at) u
 pairsFrom s (suc k) at low limitA limitB j u =
-    onTwo (twoAt s at low limitA limitB false) u λ x y next.
+    onTwo (twoAt s at low limitA limitB) u λ x y next.
     pairsFrom s k next (after x y) limitA limitB (j + 1) (putPair u j x y)
 
 -- ---- patterns
--- Rule R4.8: after the two tasks a pair count, which is 1 at least (6) and carries the total to 1,024 at most (4). No number of a file is over
+-- Rule R4.8: after the two tasks x and y a pair count, which is 1 at least (6) and carries the total to 1,024 at most (4). No number of a file is over
 -- 2,097,151.
-unfoldable pub onTwoHeading : Two → (ℕ → ℕ → ℕ → Heading) → Heading
-onTwoHeading (two.Both x y next) k = k x y next
-onTwoHeading (two.Refused r) k = heading.Refused r
-
-unfoldable pub headingAt : List ℕ → ℕ → Key → ℕ → ℕ → Heading
-headingAt s at low n used =
-    onTwoHeading (twoAt s at low n n true) λ x y p.
+unfoldable pub countFrom : List ℕ → ℕ → ℕ → ℕ → ℕ → Heading
+countFrom s p x y used =
     andThen heading.Refused (gotAt s p (range fewestPairs 2097152) (refusal.Disordered p)) λ c q.
     pick (leb (used + c) mostPairs) (heading.Of x y c q) (heading.Refused (refusal.OutOfLimits p))
+
+-- Rule R6.14 for tasks, which are n: two in order, as above; that they are one is refused at the second.
+unfoldable pub headingAt : List ℕ → ℕ → Key → ℕ → ℕ → Heading
+headingAt s at low n used =
+    andThen heading.Refused (gotAt s at (firstRange low n) (refusal.Disordered at)) λ x p₁.
+    andThen heading.Refused (gotAt s p₁ (secondRange low x n) (refusal.Disordered p₁)) λ y p₂.
+    pick (eqb x y) (heading.Refused (refusal.Disordered p₁)) (countFrom s p₂ x y used)
 
 pub record PatternTables : Type 0 where
   pub headings : List ℕ

@@ -5,7 +5,7 @@ ghost use Prim.Native.Nat.{_+_, _*_, _<_, _≤_};
 ghost use Rattle.kinds.specs.Limits.{noKey};
 ghost use Rattle.kinds.specs.Cycle.{periodsFit};
 ghost use Rattle.kinds.specs.Tasks.{tasksOf, putTask, putHeading, putPair};
-ghost use Rattle.heads.specs.Tables.{timesFrom, taskFrom, tasksFrom, tasksRead, noAttributes, twoAt, pairsFrom, pairsRead, headingAt};
+ghost use Rattle.heads.specs.Tables.{timesFrom, taskFrom, tasksFrom, tasksRead, noAttributes, twoAt, pairsFrom, pairsRead, countFrom, headingAt};
 ghost use Rattle.heads.specs.Tables.{patternTables, patternRead, patternsRead};
 ghost use Rattle.heads.specs.Heads.{patternAfter, patternsAfter, openingOf, middleFrom, headRead, headFrom};
 ghost use Rattle.heads.specs.LoopSteps.{closing};
@@ -194,9 +194,9 @@ fn read_tasks(file: &[u8], start: usize, n: usize, attributes: &mut Attributes) 
     Outcome::At(at)
 }
 
-// Two numbers, each below its limit, that come after the key's in order; where they have to be apart, two that differ.
-fn read_two(file: &[u8], at: usize, low: Key, limit_a: u32, limit_b: u32, apart: bool) -> Two
-    ensures { λ r. ⌜ r ≡ twoAt (now (file .entry)) at low «limit_a» «limit_b» apart ⌝ }
+// Two numbers, each below its limit, that come after the key's in order.
+fn read_two(file: &[u8], at: usize, low: Key, limit_a: u32, limit_b: u32) -> Two
+    ensures { λ r. ⌜ r ≡ twoAt (now (file .entry)) at low «limit_a» «limit_b» ⌝ }
 {
     match numbers::read_within(file, at, low.first, limit_a, Refusal::Disordered(at)) {
         Got::Refused(r) => Two::Refused(r),
@@ -208,14 +208,7 @@ fn read_two(file: &[u8], at: usize, low: Key, limit_a: u32, limit_b: u32, apart:
             Refusal::Disordered(p1),
         ) {
             Got::Refused(r) => Two::Refused(r),
-            Got::Value(y, p2) => {
-                if apart {
-                    if x == y {
-                        return Two::Refused(Refusal::Disordered(p1));
-                    }
-                }
-                Two::Both(x, y, p2)
-            }
+            Got::Value(y, p2) => Two::Both(x, y, p2),
         },
     }
 }
@@ -241,7 +234,7 @@ fn read_pairs(
     };
     let mut j = used;
     while j < end {
-        match read_two(file, at, low, limit_a, limit_b, false) {
+        match read_two(file, at, low, limit_a, limit_b) {
             Two::Refused(r) => {
                 return Outcome::Refused(r);
             }
@@ -259,27 +252,49 @@ fn read_pairs(
     Outcome::At(at)
 }
 
-// A pattern's two tasks and its pair count.
+// The pair count of a pattern from x to y.
+fn read_count(file: &[u8], at: usize, x: u32, y: u32, used: usize) -> Heading
+    requires { ⌜ used ≤ 1024 ⌝ }
+    ensures { λ r. ⌜ r ≡ countFrom (now (file .entry)) at x y used ⌝ }
+{
+    match numbers::read_within(
+        file,
+        at,
+        Pattern::FEWEST_PAIRS,
+        2097152,
+        Refusal::Disordered(at),
+    ) {
+        Got::Refused(r) => Heading::Refused(r),
+        Got::Value(c, next) => {
+            let n = c as usize;
+            if used + n <= TaskSet::MOST_PAIRS {
+                return Heading::Of(x, y, c, next);
+            }
+            Heading::Refused(Refusal::OutOfLimits(at))
+        }
+    }
+}
+
+// A pattern's two tasks, which are not one, and its pair count.
 fn read_heading(file: &[u8], at: usize, low: Key, tasks: u32, used: usize) -> Heading
     requires { ⌜ used ≤ 1024 ⌝ }
     ensures { λ r. ⌜ r ≡ headingAt (now (file .entry)) at low tasks used ⌝ }
 {
-    match read_two(file, at, low, tasks, tasks, true) {
-        Two::Refused(r) => Heading::Refused(r),
-        Two::Both(x, y, p) => match numbers::read_within(
+    match numbers::read_within(file, at, low.first, tasks, Refusal::Disordered(at)) {
+        Got::Refused(r) => Heading::Refused(r),
+        Got::Value(x, p1) => match numbers::read_within(
             file,
-            p,
-            Pattern::FEWEST_PAIRS,
-            2097152,
-            Refusal::Disordered(p),
+            p1,
+            kinds::low_second(low, x),
+            tasks,
+            Refusal::Disordered(p1),
         ) {
             Got::Refused(r) => Heading::Refused(r),
-            Got::Value(c, q) => {
-                let n = c as usize;
-                if used + n <= TaskSet::MOST_PAIRS {
-                    return Heading::Of(x, y, c, q);
+            Got::Value(y, p2) => {
+                if x == y {
+                    return Heading::Refused(Refusal::Disordered(p1));
                 }
-                Heading::Refused(Refusal::OutOfLimits(p))
+                read_count(file, p2, x, y, used)
             }
         },
     }

@@ -7,8 +7,7 @@ use Prim.Native.Nat.{ℕ, _+_, _*_, _≤_, _<_}
 use borrow.Author.Tests.{lt-ltb, le-ltb, lt-leb, le-leb}
 use lib.Dec.{ltb}
 use Rattle.vocabulary.specs.Test.{pick, lt-or-le}
-use Rattle.kinds.specs.Limits.{holds}
-use Rattle.kinds.specs.Sound.{openingFits, sound}
+use Rattle.kinds.specs.Sound.{sound}
 use native.Mathlib.Omega.{arith}
 use lib.IntN.{ℤ, pos, subℕ}
 use lib.Signed.{ltZ}
@@ -26,7 +25,6 @@ use Rattle.graph.specs.JobRows as row
 use Rattle.graph.specs.JobRows.{starts, ends}
 use Rattle.graph.specs.Listed.{below-sub}
 use Rattle.kinds.specs.declared.Counts.{Counts}
-use Rattle.kinds.specs.Build.{noTasks}
 use Rattle.kinds.specs.Tasks.{Tasks, Set, tasksOf, view}
 use Rattle.kinds.specs.Cycle.{cycle, jobs}
 use Rattle.kinds.specs.Links.{links}
@@ -41,7 +39,7 @@ use Rattle.network.specs.Causes.{onCycle, load, room, tight, lowestCycle
 use Rattle.network.specs.FoundOf.{lowestOver, foundBy, noneFound, foundOf, timesFit, releasesPut, deadlinesPut, SolvedFor}
 use Rattle.heads.specs.Tables.{PatternTables}
 use Rattle.reader.specs.Files.{takenOf, notTaken}
-use Rattle.reader.proofs.ReadLaws.{WholeHead}
+use Rattle.reader.proofs.ReadLaws.{WholeHead, none-sound}
 use Rattle.network.specs.Tables.{tableTasks, tablePatterns, tableSet, Numbered, numbered-sound}
 use Rattle.network.specs.LinkLists.{Wired, ExpandAsked, wired-network, wired-between}
 use Rattle.network.specs.JobTimes.{top, tasks-fit, SolveAsked, TimesIn, over, signedRelease, signedDue, sizesFit, Worked, table-same}
@@ -248,13 +246,9 @@ pub solved-as : (s t : Set) (a b : List ℤ) {r : Found} {a′ b′ : List ℤ} 
 solved-as s t a b e h = rw e at h
 
 -- ---- tasks as a file's head
-none-sound : sound (view (noTasks 0 0)) ≡ false
-unfolding sound openingFits holds
-none-sound = refl
-
 module _ (tasks : List ℕ) (a b : List ℤ) {r : Found} where
   pub unsolved-head : takenOf tasks ≡ notTaken → r ≡ noneFound → SolvedFor (view (takenOf tasks .set)) a b r a b
-  unsolved-head e z = rw e (unsolved (view (noTasks 0 0)) a b z none-sound)
+  unsolved-head e z = rw e (unsolved (view (notTaken .set)) a b z none-sound)
 
   pub solved-head : (f : Counts) (t : List ℕ) (v : PatternTables) {a′ b′ : List ℤ} → WholeHead tasks f t v
       → SolvedFor (tableSet f t (v .headings) (v .pairs)) a b r a′ b′ → SolvedFor (view (takenOf tasks .set)) a b r a′ b′

@@ -1,3 +1,4 @@
 pub mod Ways
 pub mod ReadLaws
 pub mod WholeLaws
+pub mod SlotLaws

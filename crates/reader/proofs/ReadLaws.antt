@@ -153,7 +153,11 @@ taken-sound s e = by (headOf s .outcome) refl e
     by (head.Of f at) a e = length-by f at a (eqb at (length s)) e
     by (head.Refused r) a e = clash e refl
 
--- bytes that are not taken give the empty set
+-- bytes that are not taken give the empty set, which breaks rule 10
+pub none-sound : sound (view (notTaken .set)) ≡ false
+unfolding sound openingFits holds
+none-sound = refl
+
 pub not-taken : (s : List ℕ) → takenOf s .fits ≡ false → takenOf s ≡ notTaken
 unfolding takenOf takeHead
 not-taken s e = by (headOf s .outcome) e

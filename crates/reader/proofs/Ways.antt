@@ -1,15 +1,11 @@
 -- The ways through a file after its head, each by the answers of its parts.
 use mathlib.Core.Path.{_≡_, refl, _∙_}
 use mathlib.Core.List.{List}
-use Prim.Native.Nat.{ℕ, suc, _+_, _-_, _*_, _<_, _≤_}
-use native.Mathlib.Omega.{arith}
+use Prim.Native.Nat.{ℕ, _-_, _*_}
 use borrow.Author.Tests.{eq-eqb, ne-eqb}
-use lib.Dec.{leb, ltb}
-use lib.ListN.{length, getD}
-use Rattle.vocabulary.specs.Test.{pick}
+use lib.ListN.{length}
 use Rattle.kinds.specs.declared.TaskSet.{TaskSet}
 use Rattle.numbers.specs.declared.Refusal.{Refusal}
-use Rattle.numbers.specs.declared.Refusal.the-variants as refusal
 use Rattle.heads.specs.declared.Outcome.{Outcome}
 use Rattle.heads.specs.declared.Outcome.the-variants as outcome
 use Rattle.heads.specs.Tables.{PatternTables, noAttributes, noPatternTables}
@@ -20,23 +16,6 @@ use Rattle.heads.specs.declared.Head.{Head}
 use Rattle.heads.specs.declared.Head.the-variants as head
 use Rattle.heads.specs.Heads.{headRead, headFrom, setOf}
 use Rattle.reader.specs.Files.{slotsFrom, loaded, refused, onSlots, closedOf, onHead, readOf, notTaken, wholeOf, takeHead, takenOf, onEnd, endedOf, noCounts, wholeRead, wholeCounts, wholeFrom}
-
--- what is left of a count, one turn earlier, and at the end
-left : (n i : ℕ) → i < n → n - i ≡ suc (n - (i + 1))
-left n i h = omega arith
-
-none : (n i : ℕ) → n ≤ i → n - i ≡ 0
-none n i h = omega arith
-
--- ---- slots
-pub slots-step : (s : List ℕ) (k i at n : ℕ) → i < k → slotsFrom s (k - i) at n
-    ≡ pick (leb (length s) at) (outcome.Refused (refusal.Ends (length s))) (pick (ltb n (getD s at 0)) (outcome.Refused (refusal.BadSlot at)) (slotsFrom s (k - (i + 1)) (at + 1) n))
-unfolding slotsFrom
-slots-step s k i at n h = rw (left k i h)
-
-pub slots-none : (s : List ℕ) (k i at n : ℕ) → k ≤ i → slotsFrom s (k - i) at n ≡ pick (ltb at (length s)) (outcome.Refused (refusal.LeftOver at)) (outcome.At at)
-unfolding slotsFrom
-slots-none s k i at n h = rw (none k i h)
 
 -- ---- the whole file: the head is refused; the slots are; neither is
 pub read-refused : (s : List ℕ) (t : List ℕ) (v : PatternTables) {o : Head} {r : Refusal}

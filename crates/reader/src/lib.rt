@@ -1,10 +1,12 @@
 // The reader of plan files, edition 1.
 ghost use mathlib.Core.Path.{_≡_};
 ghost use mathlib.Core.Bool.{true};
-ghost use Prim.Native.Nat.{_+_, _*_, _<_};
+ghost use Prim.Native.Nat.{_*_, _-_, _≤_};
 ghost use lib.ListN.{length, getD};
+ghost use Rattle.vocabulary.specs.Least.{least};
 ghost use Rattle.numbers.specs.Answers.{refusalNumber, refusalEvidence};
 ghost use Rattle.reader.specs.Answers.{numberOf, evidenceOf};
+ghost use Rattle.reader.specs.Present.{present, highFrom};
 ghost use Rattle.heads.specs.Tables.{patternTables};
 ghost use Rattle.reader.specs.Files.{endedOf, closedOf, wholeOf, slotsFrom, refused, readOf, notTaken, takenOf, noCounts, wholeRead, wholeFrom};
 use heads::Head;
@@ -28,27 +30,48 @@ pub struct Taking {
     pub set: TaskSet,
 }
 
+// How many of the k slots from a place on stand in a file of so many bytes.
+fn slots_present(length: usize, start: usize, k: u64) -> usize
+    ensures { λ r. ⌜ r ≡ present length start k ⌝ }
+{
+    if length <= start {
+        return 0;
+    }
+    let rest = length - start;
+    if k < rest as u64 {
+        return k as usize;
+    }
+    rest
+}
+
+// The lowest of the slots from a place on that is above n, by how many come before it, or how many there are.
+fn high_slot(file: &[u8], start: usize, there: usize, n: usize) -> usize
+    requires { ⌜ there ≤ length (now file) - start ⌝ }
+    ensures { λ r. ⌜ r ≡ least (highFrom (now (file .entry)) n start) there ⌝ }
+{
+    if there == 0 {
+        return 0;
+    }
+    slots::first_high(&file[start..start + there], n)
+}
+
 // The k slots from a place on, none above n, and the end of the file after them.
 fn read_slots(file: &[u8], start: usize, k: u64, n: usize) -> Outcome
     ensures { λ r. ⌜ r ≡ slotsFrom (now (file .entry)) k start n ⌝ }
 {
-    let mut at = start;
-    let mut i: u64 = 0;
-    while i < k {
-        if file.len() <= at {
-            return Outcome::Refused(Refusal::Ends(file.len()));
-        }
-        let v = file[at] as usize;
-        if n < v {
-            return Outcome::Refused(Refusal::BadSlot(at));
-        }
-        at += 1;
-        i += 1;
+    let there = slots_present(file.len(), start, k);
+    let high = high_slot(file, start, there, n);
+    if high < there {
+        return Outcome::Refused(Refusal::BadSlot(start + high));
     }
-    if at < file.len() {
-        return Outcome::Refused(Refusal::LeftOver(at));
+    if (there as u64) < k {
+        return Outcome::Refused(Refusal::Ends(file.len()));
     }
-    Outcome::At(at)
+    let end = start + there;
+    if end < file.len() {
+        return Outcome::Refused(Refusal::LeftOver(end));
+    }
+    Outcome::At(end)
 }
 
 // The slots that m processors have in h ticks.

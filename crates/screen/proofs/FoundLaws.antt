@@ -14,11 +14,10 @@ use Rattle.vocabulary.specs.First.{rule, firstOf}
 use Rattle.kinds.specs.Tasks.{Tasks, Set, view}
 use Rattle.kinds.specs.Cycle.{jobs}
 use Rattle.kinds.specs.Jobs.{taskOfJob, jobOfJob}
-use Rattle.kinds.specs.Limits.{holds}
-use Rattle.kinds.specs.Sound.{openingFits, sound}
+use Rattle.kinds.specs.Sound.{sound}
 use Rattle.reader.specs.declared.Taking.{Taking}
 use Rattle.reader.specs.Files.{takenOf, notTaken}
-use Rattle.reader.proofs.ReadLaws.{not-taken}
+use Rattle.reader.proofs.ReadLaws.{none-sound, not-taken}
 use Rattle.kinds.proofs.SoundFacts.{Sound, sound-facts, some-jobs}
 use Rattle.laws.specs.Order.{before-suc, before-up}
 use Rattle.network.specs.declared.Found.{Found}
@@ -175,11 +174,7 @@ answered s r d h e =
     let w = written-fit s (length r) (length d) in
     record { answer = e; releases = h .releases ∙ rw w; deadlines = h .deadlines ∙ rw w }
 
--- ---- tasks as a file's head: bytes that are not taken are an empty set, which breaks rule 10
-none-sound : sound (view (notTaken .set)) ≡ false
-unfolding sound openingFits holds
-none-sound = refl
-
+-- ---- tasks as a file's head
 module _ (tasks : List ℕ) where
   pub screened : {r : Finding} → r ≡ findingOf (view (takenOf tasks .set)) → r ≡ screenedOf tasks
   unfolding screenedOf

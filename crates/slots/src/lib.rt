@@ -1,4 +1,4 @@
-// Rule 12 (R7.5 in docs/RULES.md), for a plan and for a row of it: no slot is above the task count.
+// No slot is above the task count: rule 12 (R7.5 in docs/RULES.md), for a plan and for a row of it, and 7 (R6.8), for the slots of a file.
 ghost use mathlib.Core.Path.{_≡_};
 ghost use Prim.Native.Nat.{_≤_};
 ghost use lib.ListN.{length};

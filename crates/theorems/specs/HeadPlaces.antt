@@ -1,8 +1,7 @@
 -- How far a head reaches, number by number, and that no byte behind it counts.
 use mathlib.Core.Path.{_≡_, refl, sym, ap, _∙_}
-use mathlib.Core.Bool.{Bool, true, false, _&&_}
 use mathlib.Core.List.{List}
-use Prim.Native.Nat.{ℕ, zero, suc, _+_, _*_, _-_, _<_, _≤_}
+use Prim.Native.Nat.{ℕ, zero, suc, _+_, _*_, _-_, _≤_}
 use native.Mathlib.Omega.{arith}
 use borrow.Author.Tests.{leb-true}
 use lib.Dec.{leb, eqb}
@@ -34,13 +33,13 @@ use Rattle.heads.specs.declared.Opening.{Opening}
 use Rattle.heads.specs.declared.Opening.the-variants as opening
 use Rattle.heads.specs.declared.Middle.the-variants as middle
 use Rattle.heads.specs.declared.Head.the-variants as head
-use Rattle.heads.specs.Tables.{timesFrom, taskFrom, TasksRead, onTask, tasksFrom, twoAt, PairsRead, onTwo, pairsFrom, onTwoHeading, headingAt}
+use Rattle.heads.specs.Tables.{timesFrom, taskFrom, TasksRead, onTask, tasksFrom, twoAt, PairsRead, onTwo, pairsFrom, countFrom, headingAt}
 use Rattle.heads.specs.Tables.{PatternTables, withPattern, progress, PatternsRead, onHeading, onPairs, patternFrom, onPattern, patternsFrom}
 use Rattle.heads.specs.Heads.{openingOf, middleFrom, onOpening, onTasks, onMiddle, onPatterns, headFrom}
 use Rattle.heads.proofs.ReadInRange.{went}
 use Rattle.heads.proofs.ReadSteps.{tasks-went, pairs-went, patterns-went, patterns-rest, HeadWent, head-went}
 use Rattle.heads.proofs.Bounds.{spans-low, heading-bounds, opening-low, middle-low}
-use Rattle.theorems.specs.NumberPlaces.{SameTo, same-less, NumberRead, GotRead, got-read}
+use Rattle.theorems.specs.NumberPlaces.{SameTo, same-less, GotRead, got-read}
 
 -- what P reads from place `at` on ends at `next`, at most so many bytes further, and is the same for every file with the same bytes so far
 pub record ReadTo {A : Type 0} (s : List ℕ) (at next most : ℕ) (P : List ℕ → A) : Type 0 where
@@ -157,35 +156,20 @@ tasks-place s (suc k) i at u q e =
 no-two : {r : Refusal} {x y q : ℕ} → two.Refused r ≡ two.Both x y q → ⊥
 no-two e = let z : _≡_ {A = ℕ} 0 1 = cc in omega arith
 
-abbrev two₁ : Key → ℕ → Bool → ℕ → List ℕ → ℕ → Two
-two₁ low lb apart x s p =
-    andThen two.Refused (gotAt s p (secondRange low x lb) (refusal.Disordered p)) λ y p₂.
-    pick (apart && eqb x y) (two.Refused (refusal.Disordered p)) (two.Both x y p₂)
+abbrev two₁ : Key → ℕ → ℕ → List ℕ → ℕ → Two
+two₁ low lb x s p = andThen two.Refused (gotAt s p (secondRange low x lb) (refusal.Disordered p)) λ y p₂. two.Both x y p₂
 
--- the widths of the two numbers, by their limits
-record Wide (limit w : ℕ) : Type 0 where
-  is : (s : List ℕ) (at v next : ℕ) → NumberRead s at v next → v < limit → next ≤ at + w
+module _ (s : List ℕ) (low : Key) (la lb x y q : ℕ) (fa : la ≤ 16384) (fb : lb ≤ 16384) where
+  and₁ : (a p : ℕ) → two₁ low lb a s p ≡ two.Both x y q → ReadTo s p q 2 (λ t. two₁ low lb a t p)
+  and₁ a p =
+      then-place s p (secondRange low a lb) (refusal.Disordered p) two.Refused (λ t. two.Both a) (two.Both x y q) q 2 0 (λ f x. no-two x)
+      (λ v p₂ g w. (g .read .two (omega (arith, g .in-range .1)), end-place s p₂ q _ (cc w)))
 
-one-byte : (limit : ℕ) → limit ≤ 128 → Wide limit 1
-one-byte limit l = record { is = λ s at v next r h. r .one (omega arith) }
-
-two-bytes : (limit : ℕ) → limit ≤ 16384 → Wide limit 2
-two-bytes limit l = record { is = λ s at v next r h. r .two (omega arith) }
-
-module _ (s : List ℕ) (low : Key) (la lb : ℕ) (apart : Bool) (x y q wa wb : ℕ) (fa : Wide la wa) (fb : Wide lb wb) where
-  and₁ : (a p : ℕ) → two₁ low lb apart a s p ≡ two.Both x y q → ReadTo s p q wb (λ t. two₁ low lb apart a t p)
-  and₁ a p e =
-      let z : wb + 0 ≡ wb = omega arith in
-      rw z at
-      (then-place s p (secondRange low a lb) (refusal.Disordered p) two.Refused
-      (λ t b p₂. pick (apart && eqb a b) (two.Refused (refusal.Disordered p)) (two.Both a b p₂)) (two.Both x y q) q wb 0 (λ f x. no-two x)
-      (λ v p₂ g w. (fb .is s p v p₂ (g .read) (g .in-range .1), end-place s p₂ q _ (cc (missed (apart && eqb a v) _ _ _ w no-two .1)))) e)
-
-  two-place : (p : ℕ) → twoAt s p low la lb apart ≡ two.Both x y q → ReadTo s p q (wa + wb) (λ t. twoAt t p low la lb apart)
+  two-place : (p : ℕ) → twoAt s p low la lb ≡ two.Both x y q → ReadTo s p q 4 (λ t. twoAt t p low la lb)
   unfolding twoAt
   two-place p =
-      then-place s p (firstRange low la) (refusal.Disordered p) two.Refused (λ t a. two₁ low lb apart a t) (two.Both x y q) q wa wb (λ f x. no-two x)
-      (λ v p₁ g w. (fa .is s p v p₁ (g .read) (g .in-range .1), and₁ v p₁ w))
+      then-place s p (firstRange low la) (refusal.Disordered p) two.Refused (λ t a. two₁ low lb a t) (two.Both x y q) q 2 2 (λ f x. no-two x)
+      (λ v p₁ g w. (g .read .two (omega (arith, g .in-range .1)), and₁ v p₁ w))
 
 -- ---- pairs
 pairs-place : (s : List ℕ) (la lb : ℕ) → la ≤ 6000 → lb ≤ 6000 → (k at : ℕ) (low : Key) (j : ℕ) (u : List ℕ) (q : ℕ)
@@ -195,7 +179,7 @@ pairs-place s la lb ha hb zero at low j u q e = end-place s at q _ (cc e)
 pairs-place s la lb ha hb (suc k) at low j u q e =
     let w = pairs-went s k at low la lb j u q e in
     let v : List ℕ = putPair u j (w .x) (w .y) in
-    let a = two-place s low la lb false (w .x) (w .y) (w .next) 2 2 (two-bytes la (omega arith)) (two-bytes lb (omega arith)) at (w .is) in
+    let a = two-place s low la lb (w .x) (w .y) (w .next) (omega arith) (omega arith) at (w .is) in
     let b = pairs-place s la lb ha hb k (w .next) (after (w .x) (w .y)) (j + 1) v q (ap (λ (x : PairsRead). x .outcome) (sym (w .rest)) ∙ e) in
     record {
       rises = omega (arith, a .rises, b .rises);
@@ -208,13 +192,14 @@ pairs-place s la lb ha hb (suc k) at low j u q e =
 no-heading : {r : Refusal} {x y c q : ℕ} → heading.Refused r ≡ heading.Of x y c q → ⊥
 no-heading e = let z : _≡_ {A = ℕ} 0 1 = cc in omega arith
 
-abbrev heading₁ : ℕ → ℕ → ℕ → List ℕ → ℕ → Heading
-heading₁ used x y s p =
-    andThen heading.Refused (gotAt s p (range 1 2097152) (refusal.Disordered p)) λ c q.
-    pick (leb (used + c) mostPairs) (heading.Of x y c q) (heading.Refused (refusal.OutOfLimits p))
+abbrev heading₁ : Key → ℕ → ℕ → ℕ → List ℕ → ℕ → Heading
+heading₁ low n used x s p =
+    andThen heading.Refused (gotAt s p (secondRange low x n) (refusal.Disordered p)) λ y p₂.
+    pick (eqb x y) (heading.Refused (refusal.Disordered p)) (countFrom s p₂ x y used)
 
 module _ (s : List ℕ) (at : ℕ) (low : Key) (n used x y c q : ℕ) (l : n ≤ 64) where
-  count-place : (a b p : ℕ) → heading₁ used a b s p ≡ heading.Of x y c q → ReadTo s p q 2 (λ t. heading₁ used a b t p)
+  count-place : (a b p : ℕ) → countFrom s p a b used ≡ heading.Of x y c q → ReadTo s p q 2 (λ t. countFrom t p a b used)
+  unfolding countFrom
   count-place a b p =
       then-place s p (range 1 2097152) (refusal.Disordered p) heading.Refused
       (λ t d r. pick (leb (used + d) mostPairs) (heading.Of a b d r) (heading.Refused (refusal.OutOfLimits p))) (heading.Of x y c q) q 2 0
@@ -223,22 +208,19 @@ module _ (s : List ℕ) (at : ℕ) (low : Key) (n used x y c q : ℕ) (l : n ≤
       let z = took (leb (used + v) mostPairs) _ _ _ w no-heading in
       (g .read .two (omega (arith, leb-true (used + v) 1024 (z .0))), end-place s r q _ (cc (z .1))))
 
+  to₁ : (a p : ℕ) → heading₁ low n used a s p ≡ heading.Of x y c q → ReadTo s p q 3 (λ t. heading₁ low n used a t p)
+  to₁ a p =
+      then-place s p (secondRange low a n) (refusal.Disordered p) heading.Refused
+      (λ t b r. pick (eqb a b) (heading.Refused (refusal.Disordered p)) (countFrom t r a b used)) (heading.Of x y c q) q 1 2 (λ f x. no-heading x)
+      (λ v r g w.
+      let z = missed (eqb a v) _ _ _ w no-heading in
+      (g .read .one (omega (arith, g .in-range .1)), rw (z .0) (count-place a v r (z .1))))
+
   heading-place : headingAt s at low n used ≡ heading.Of x y c q → ReadTo s at q 4 (λ t. headingAt t at low n used)
-  unfolding headingAt onTwoHeading
-  heading-place e = by (twoAt s at low n n true) refl e
-    where
-      by : (r : Two) → twoAt s at low n n true ≡ r → onTwoHeading r (λ a b p. heading₁ used a b s p) ≡ heading.Of x y c q
-          → ReadTo s at q 4 (λ t. headingAt t at low n used)
-      by (two.Both a b p) h w =
-          let g = two-place s low n n true a b p 1 1 (one-byte n (omega arith)) (one-byte n (omega arith)) at h in
-          let d = count-place a b p w in
-          record {
-            rises = omega (arith, g .rises, d .rises);
-            within = λ x. d .within (g .within x);
-            ends = omega (arith, g .ends, d .ends);
-            again = λ t m. rw (g .again t (same-less s t p q (d .rises) m), h) (d .again t m);
-          }
-      by (two.Refused r) h w = absurd (no-heading w)
+  unfolding headingAt
+  heading-place =
+      then-place s at (firstRange low n) (refusal.Disordered at) heading.Refused (λ t a. heading₁ low n used a t) (heading.Of x y c q) q 1 3
+      (λ f x. no-heading x) (λ v p₁ g w. (g .read .one (omega (arith, g .in-range .1)), to₁ v p₁ w))
 
 -- ---- patterns, with all their pairs
 patterns-place : (s : List ℕ) (e : ℕ) (t : Tasks) (h : ℕ) → t .count ≤ 64 → (k i : ℕ) (done : Progress) (u : PatternTables) (q l : ℕ)

@@ -37,12 +37,12 @@ enum-known-a c = search needs
 
 put-pair-requires : tie.Need-put-pair-requires Inv-loop μ-loop
 put-pair-requires c κs =
-    let b = two-bounds _ _ _ _ _ _ _ _ _ (c .before .before .before .before .read-two .ensures) (c .before .before .a .given .1) in
+    let b = two-bounds _ _ _ _ _ _ _ _ (c .before .before .before .before .read-two .ensures) (c .before .before .a .given .1) in
     let p = c .before .before .before .before .before .before .before .before .pre in
     (omega arith, omega arith, omega arith)
 
 add-t20 : tie.Need-add-t20 Inv-loop μ-loop
-add-t20 c = omega (arith, two-bounds _ _ _ _ _ _ _ _ _ (c .before .before .before .before .before .read-two .ensures) (c .before .before .before .a .given .1))
+add-t20 c = omega (arith, two-bounds _ _ _ _ _ _ _ _ (c .before .before .before .before .before .read-two .ensures) (c .before .before .before .a .given .1))
 
 add-j : tie.Need-add-j Inv-loop μ-loop
 add-j c = omega arith

@@ -1,7 +1,5 @@
-use borrow.Author.Tests.{eq-eqb, ne-eqb}
-use Rattle.vocabulary.specs.Test.{by-true, by-false}
-use Rattle.numbers.specs.Numbers.{andThen}
 use Rattle.heads.specs.Tables.{twoAt}
+use Rattle.numbers.specs.Numbers.{andThen}
 use borrow.Author.Needs.{needs}
 use Rattle.heads.proofs.read_two.Statement.{statement}
 use Rattle.heads.proofs.read_two.Tie as tie
@@ -29,46 +27,15 @@ enum-known-y c = search needs
 
 returns : tie.Need-returns
 unfolding twoAt andThen
-returns c = simp (
-  ← c .before .before .before .before .before .before .before .before .before .before .read-within .ensures,
-  c .before .before .before .before .before .before .before .before .x .given .1,
-  ← c .before .before .before .before .before .before .low-second .ensures,
-  ← c .before .before .before .before .before .read-within2 .ensures,
-  c .before .before .before .y .given .1,
-  c .before .if1 .taken,
-)
-    (by-true _ _ (eq-eqb _ _ (c .if2 .taken)))
+returns c = simp (← c .before .before .before .read-within .ensures, c .before .r .given .1)
 
 returns-2 : tie.Need-returns-2
 unfolding twoAt andThen
-returns-2 c = simp (← c .before .before .before .read-within .ensures, c .before .r .given .1)
+returns-2 c = simp (← c .before .before .before .before .before .before .before .before .read-within .ensures, c .before .before .before .before .before .before .x .given .1, ← c .before .before .before .before .low-second .ensures, ← c .before .before .before .read-within2 .ensures, c .before .r2 .given .1)
 
 returns-3 : tie.Need-returns-3
 unfolding twoAt andThen
-returns-3 c = simp (← c .before .before .before .before .before .before .before .before .read-within .ensures, c .before .before .before .before .before .before .x .given .1, ← c .before .before .before .before .low-second .ensures, ← c .before .before .before .read-within2 .ensures, c .before .r2 .given .1)
-
-returns-4 : tie.Need-returns-4
-unfolding twoAt andThen
-returns-4 c = simp (
-  ← c .before .before .before .before .before .before .before .before .before .before .read-within .ensures,
-  c .before .before .before .before .before .before .before .before .x .given .1,
-  ← c .before .before .before .before .before .before .low-second .ensures,
-  ← c .before .before .before .before .before .read-within2 .ensures,
-  c .before .before .before .y .given .1,
-  c .before .if1 .taken,
-)
-    (by-false _ _ (ne-eqb _ _ (c .if2 .left)))
-
-returns-5 : tie.Need-returns-5
-unfolding twoAt andThen
-returns-5 c = simp (
-  ← c .before .before .before .before .before .before .before .before .before .read-within .ensures,
-  c .before .before .before .before .before .before .before .x .given .1,
-  ← c .before .before .before .before .before .low-second .ensures,
-  ← c .before .before .before .before .read-within2 .ensures,
-  c .before .before .y .given .1,
-  c .if1 .left,
-)
+returns-3 c = simp (← c .before .before .before .before .before .before .before .before .read-within .ensures, c .before .before .before .before .before .before .x .given .1, ← c .before .before .before .before .low-second .ensures, ← c .before .before .before .read-within2 .ensures, c .before .y .given .1)
 
 pub read-two-spec : {M : Type 1} → statement M
 read-two-spec =
@@ -83,6 +50,4 @@ read-two-spec =
     enum-known-y
     returns
     returns-2
-    returns-3
-    returns-4
-    returns-5)
+    returns-3)
