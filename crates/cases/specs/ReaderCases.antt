@@ -13,6 +13,7 @@ use Rattle.kinds.specs.Links.{spansOf, linksIn}
 use Rattle.numbers.specs.Numbers.{numberAt, held, gotAt, andThen}
 use Rattle.heads.specs.Tables.{timesFrom, taskFrom, onTask, tasksFrom, twoAt, onTwo, pairsFrom, countFrom, headingAt, onHeading, onPairs, patternFrom, onPattern, patternsFrom}
 use Rattle.heads.specs.Heads.{openingOf, middleFrom, onOpening, onTasks, onMiddle, onPatterns, headFrom}
+use Rattle.slots.specs.High.{high}
 use Rattle.reader.specs.Files.{slotsFrom, onSlots, onHead, readOf}
 use Rattle.cases.specs.Samples.{small, fromSeven, toSeven}
 use Rattle.cases.specs.Questions.{Row, Answered, says, reply, taskNumbers}
@@ -163,5 +164,5 @@ readerCases =
 pub reader-cases : Answered readerCases
 unfolding readerCases small patterned coprime from fromSeven toSeven onePair eight amongSeven reply taskNumbers least all total table lcm lcmOf holds
     rises cycle jobsOf jobsBefore jobs cycleFits spansOf linksIn numberAt held gotAt andThen timesFrom taskFrom onTask tasksFrom twoAt onTwo pairsFrom countFrom
-    headingAt onHeading onPairs patternFrom onPattern patternsFrom openingOf middleFrom onOpening onTasks onMiddle onPatterns headFrom slotsFrom onSlots onHead readOf
+    headingAt onHeading onPairs patternFrom onPattern patternsFrom openingOf middleFrom onOpening onTasks onMiddle onPatterns headFrom high slotsFrom onSlots onHead readOf
 reader-cases = refl

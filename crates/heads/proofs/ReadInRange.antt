@@ -27,7 +27,7 @@ use Rattle.heads.specs.declared.Heading.the-variants as heading
 use Rattle.heads.specs.declared.Opening.the-variants as opening
 use Rattle.heads.specs.declared.Middle.the-variants as middle
 use Rattle.numbers.specs.Numbers.{numberAt, held, gotAt, andThen}
-use Rattle.heads.specs.Tables.{timesFrom, taskFrom, twoAt, countFrom, headingAt}
+use Rattle.heads.specs.Tables.{timesFrom, taskFrom, inOrder, twoAt, countFrom, headingAt}
 use Rattle.heads.specs.Heads.{openingOf, middleFrom}
 
 -- a test of equal numbers answers alike
@@ -92,16 +92,36 @@ task-fits s p t q e =
 refused-two : {r : Refusal} {x y q : ℕ} → two.Refused r ≡ two.Both x y q → ⊥
 refused-two e = let z : _≡_ {A = ℕ} 0 1 = cc in omega arith
 
+module _ {A : Type 0} where
+  -- where no refusal came out, the two were read, in order
+  record InOrder (low : Key) (la lb : ℕ) (k : ℕ → ℕ → ℕ → ℕ → A) (z : A) : Type 0 where
+    first : ℕ
+    second : ℕ
+    at : ℕ
+    next : ℕ
+    rising : rises low la lb first second ≡ true
+    on : k first second at next ≡ z
+
+  in-order : (refuse : Refusal → A) (s : List ℕ) (p : ℕ) (low : Key) (la lb : ℕ) (k : ℕ → ℕ → ℕ → ℕ → A) (z : A) → ((r : Refusal) → refuse r ≡ z → ⊥)
+      → inOrder refuse s p low la lb k ≡ z → InOrder low la lb k z
+  unfolding rises
+  in-order refuse s p low la lb k z never e =
+      let i = went refuse (gotAt s p (firstRange low la) (refusal.Disordered p)) _ z never e in
+      let j = went refuse (gotAt s (i .next) (secondRange low (i .value) lb) (refusal.Disordered (i .next))) _ z never (i .on) in
+      record {
+        first = i .value;
+        second = j .value;
+        at = i .next;
+        next = j .next;
+        rising = rw (let-through _ _ _ _ _ _ (i .is)) (let-through _ _ _ _ _ _ (j .is));
+        on = j .on;
+      }
+
 pub two-fits : (s : List ℕ) (p : ℕ) (low : Key) (la lb x y q : ℕ) → twoAt s p low la lb ≡ two.Both x y q → rises low la lb x y ≡ true
-unfolding twoAt rises
+unfolding twoAt
 two-fits s p low la lb x y q e =
-    let no : (r : Refusal) → two.Refused r ≡ two.Both x y q → ⊥ = λ r w. refused-two w in
-    let i = went two.Refused (gotAt s p (firstRange low la) (refusal.Disordered p)) _ (two.Both x y q) no e in
-    let j = went two.Refused (gotAt s (i .next) (secondRange low (i .value) lb) (refusal.Disordered (i .next))) _ (two.Both x y q) no (i .on) in
-    let ex : i .value ≡ x = cc (j .on) in
-    let ey : j .value ≡ y = cc (j .on) in
-    let r : rises low la lb (i .value) (j .value) ≡ true = rw (let-through _ _ _ _ _ _ (i .is)) (let-through _ _ _ _ _ _ (j .is)) in
-    same₂ (rises low la lb) ex ey r
+    let w = in-order two.Refused s p low la lb _ (two.Both x y q) (λ r w. refused-two w) e in
+    same₂ (rises low la lb) (cc (w .on)) (cc (w .on)) (w .rising)
 
 pub two-bounds : (s : List ℕ) (p : ℕ) (low : Key) (la lb x y q : ℕ) {r : Two} → r ≡ twoAt s p low la lb → r ≡ two.Both x y q → (x < la) × (y < lb)
 unfolding rises
@@ -118,26 +138,24 @@ unfolding holds
 some l u v e = both {a = leb l v} e .0
 
 -- the numbers of a heading, each by the test that let it through
-fits-by : (n : ℕ) (low : Key) (x y c used : ℕ) → holds (firstRange low n) x ≡ true → holds (secondRange low x n) y ≡ true → eqb x y ≡ false → leb 1 c ≡ true
-    → leb (used + c) mostPairs ≡ true → headingFits n low x y c used ≡ true
-unfolding headingFits rises
-fits-by n low x y c used f g h i j = rw (f, g, h, i) j
+fits-by : (n : ℕ) (low : Key) (x y c used : ℕ) → rises low n n x y ≡ true → eqb x y ≡ false → leb 1 c ≡ true → leb (used + c) mostPairs ≡ true
+    → headingFits n low x y c used ≡ true
+unfolding headingFits
+fits-by n low x y c used f g h i = rw (f, g, h) i
 
 pub heading-fits : (s : List ℕ) (at : ℕ) (low : Key) (n used x y c q : ℕ) → headingAt s at low n used ≡ heading.Of x y c q → headingFits n low x y c used ≡ true
 unfolding headingAt countFrom
 heading-fits s at low n used x y c q e =
     let no : (r : Refusal) → heading.Refused r ≡ heading.Of x y c q → ⊥ = λ r w. refused-heading w in
-    let i = went heading.Refused (gotAt s at (firstRange low n) (refusal.Disordered at)) _ (heading.Of x y c q) no e in
-    let j = went heading.Refused (gotAt s (i .next) (secondRange low (i .value) n) (refusal.Disordered (i .next))) _ (heading.Of x y c q) no (i .on) in
-    let b = missed (eqb (i .value) (j .value)) _ _ _ (j .on) refused-heading in
-    let k = went heading.Refused (gotAt s (j .next) (range 1 2097152) (refusal.Disordered (j .next))) _ (heading.Of x y c q) no (b .1) in
+    let i = in-order heading.Refused s at low n n _ (heading.Of x y c q) no e in
+    let b = missed (eqb (i .first) (i .second)) _ _ _ (i .on) refused-heading in
+    let k = went heading.Refused (gotAt s (i .next) (range 1 2097152) (refusal.Disordered (i .next))) _ (heading.Of x y c q) no (b .1) in
     let t = took (leb (used + k .value) mostPairs) _ _ _ (k .on) refused-heading in
-    let ex : i .value ≡ x = cc (t .1) in
-    let ey : j .value ≡ y = cc (t .1) in
+    let ex : i .first ≡ x = cc (t .1) in
+    let ey : i .second ≡ y = cc (t .1) in
     let ec : k .value ≡ c = cc (t .1) in
     same₃ (λ a b d. headingFits n low a b d used) ex ey ec
-    (fits-by n low (i .value) (j .value) (k .value) used (let-through _ _ _ _ _ _ (i .is)) (let-through _ _ _ _ _ _ (j .is)) (b .0)
-    (some 1 2097152 (k .value) (let-through _ _ _ _ _ _ (k .is))) (t .0))
+    (fits-by n low (i .first) (i .second) (k .value) used (i .rising) (b .0) (some 1 2097152 (k .value) (let-through _ _ _ _ _ _ (k .is))) (t .0))
 
 -- ---- the numbers before the tasks, and between tasks and patterns
 refused-opening : {r : Refusal} {e n m q : ℕ} → opening.Refused r ≡ opening.Of e n m q → ⊥

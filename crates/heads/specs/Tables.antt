@@ -10,6 +10,7 @@ use Rattle.kinds.specs.declared.Task.{Task}
 use Rattle.kinds.specs.Limits.{range, periods, runnings, offsets, deadlines, fewestPairs, mostPairs, noKey, after, firstRange, secondRange}
 use Rattle.kinds.specs.Tasks.{Tasks, taskOf, period, putTask, putHeading, putPair}
 use Rattle.kinds.specs.Links.{spansOf, linksIn}
+use Rattle.numbers.specs.declared.Refusal.{Refusal}
 use Rattle.numbers.specs.declared.Refusal.the-variants as refusal
 use Rattle.heads.specs.declared.TaskRead.{TaskRead}
 use Rattle.heads.specs.declared.TaskRead.the-variants as taskRead
@@ -61,12 +62,16 @@ tasksFrom s zero i at u = tasksRead (outcome.At at) u
 tasksFrom s (suc k) i at u = onTask (taskFrom s at) u λ t next. tasksFrom s k (i + 1) next (putTask u i t)
 
 -- ---- two numbers in order
--- Rule R6.14: a number that is out of order is refused at its own place, the second where the first is that of the two before.
+-- Rule R6.14: a number that is out of order is refused at its own place, the second where the first is that of the two before. What comes next gets the two,
+-- the place of the second and the place after it.
+abbrev pub inOrder : {A : Type 0} → (Refusal → A) → List ℕ → ℕ → Key → ℕ → ℕ → (ℕ → ℕ → ℕ → ℕ → A) → A
+inOrder refuse s p low limitA limitB next =
+    andThen refuse (gotAt s p (firstRange low limitA) (refusal.Disordered p)) λ x p₁.
+    andThen refuse (gotAt s p₁ (secondRange low x limitB) (refusal.Disordered p₁)) λ y p₂.
+    next x y p₁ p₂
+
 unfoldable pub twoAt : List ℕ → ℕ → Key → ℕ → ℕ → Two
-twoAt s p low limitA limitB =
-    andThen two.Refused (gotAt s p (firstRange low limitA) (refusal.Disordered p)) λ x p₁.
-    andThen two.Refused (gotAt s p₁ (secondRange low x limitB) (refusal.Disordered p₁)) λ y p₂.
-    two.Both x y p₂
+twoAt s p low limitA limitB = inOrder two.Refused s p low limitA limitB λ x y p₁ p₂. two.Both x y p₂
 
 -- ---- pairs
 pub record PairsRead : Type 0 where
@@ -95,11 +100,10 @@ countFrom s p x y used =
     andThen heading.Refused (gotAt s p (range fewestPairs 2097152) (refusal.Disordered p)) λ c q.
     pick (leb (used + c) mostPairs) (heading.Of x y c q) (heading.Refused (refusal.OutOfLimits p))
 
--- Rule R6.14 for tasks, which are n: two in order, as above; that they are one is refused at the second.
+-- Two of n tasks, in order; that they are one is refused at the second.
 unfoldable pub headingAt : List ℕ → ℕ → Key → ℕ → ℕ → Heading
 headingAt s at low n used =
-    andThen heading.Refused (gotAt s at (firstRange low n) (refusal.Disordered at)) λ x p₁.
-    andThen heading.Refused (gotAt s p₁ (secondRange low x n) (refusal.Disordered p₁)) λ y p₂.
+    inOrder heading.Refused s at low n n λ x y p₁ p₂.
     pick (eqb x y) (heading.Refused (refusal.Disordered p₁)) (countFrom s p₂ x y used)
 
 pub record PatternTables : Type 0 where

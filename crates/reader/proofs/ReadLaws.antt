@@ -10,6 +10,7 @@ use borrow.Author.Tests.{leb-false, ltb-false, eq-eqb, ne-eqb}
 use lib.Dec.{leb, ltb, eqb}
 use lib.ListN.{length, getD}
 use Rattle.vocabulary.specs.Test.{pick, missed, both, clash}
+use Rattle.slots.specs.High.{high}
 use Rattle.kinds.specs.declared.TaskSet.{TaskSet}
 use Rattle.kinds.specs.Limits.{holds, editions, taskCounts}
 use Rattle.kinds.specs.Tasks.{view}
@@ -41,10 +42,10 @@ no-more s at n q l e =
     record { long = omega arith; low = λ j a b. absurd (omega arith) }
 
 one-more : (s : List ℕ) (k at n q : ℕ) → slotsFrom s (suc k) at n ≡ outcome.At q → (at < length s) × (getD s at 0 ≤ n) × (slotsFrom s k (at + 1) n ≡ outcome.At q)
-unfolding slotsFrom
+unfolding slotsFrom high
 one-more s k at n q e =
     let a = missed (leb (length s) at) _ _ _ e refused-at in
-    let b = missed (ltb n (getD s at 0)) _ _ _ (a .1) refused-at in
+    let b = missed (high s n at) _ _ _ (a .1) refused-at in
     (leb-false (length s) at (a .0), ltb-false n (getD s at 0) (b .0), b .1)
 
 slots-read : (s : List ℕ) (k at n q : ℕ) → at ≤ length s → slotsFrom s k at n ≡ outcome.At q → SlotsRead s k at n

@@ -1,50 +1,19 @@
 -- Slots by the first that is too high, in place of one after another.
-use mathlib.Core.Path.{_≡_, refl, sym, ap, _∙_}
-use mathlib.Core.Bool.{Bool, true, false}
+use mathlib.Core.Path.{_≡_, sym, ap, _∙_}
+use mathlib.Core.Bool.{true, false}
 use mathlib.Core.List.{List}
-use Prim.Native.Nat.{ℕ, zero, suc, _+_, _-_, _<_, _≤_}
+use Prim.Native.Nat.{ℕ, zero, suc, _+_, _-_, _<_, _≤_, min}
 use native.Mathlib.Omega.{arith}
-use borrow.Author.Tests.{ltb-true, ltb-false, lt-leb, lt-ltb, le-leb, le-ltb}
+use borrow.Author.Tests.{lt-leb, lt-ltb, le-leb, le-ltb}
 use lib.Dec.{ltb}
-use lib.ListN.{length, getD, take, drop}
-use Rattle.vocabulary.specs.Test.{pick, by-true, by-false}
+use lib.ListN.{length, take, drop}
 use Rattle.vocabulary.specs.Least.{least, Least, least-is, least-same}
 use Rattle.vocabulary.specs.Prefix.{part-length, part-entry}
 use Rattle.slots.specs.High.{high}
 use Rattle.numbers.specs.declared.Refusal.the-variants as refusal
 use Rattle.heads.specs.declared.Outcome.the-variants as outcome
 use Rattle.reader.specs.Files.{slotsFrom}
-use Rattle.reader.specs.Present.{present, highFrom}
-
--- ---- how many slots there are
-pub present-fits : (len start k : ℕ) {there : ℕ} → there ≡ present len start k → (there ≤ k) × (there ≤ len - start)
-unfolding present
-present-fits len start k e = by (ltb k (len - start)) refl e
-  where
-    by : (b : Bool) → ltb k (len - start) ≡ b → {there : ℕ} → there ≡ pick b k (len - start) → (there ≤ k) × (there ≤ len - start)
-    by true t e = let h : k < len - start = ltb-true _ _ t in (omega arith, omega arith)
-    by false t e = let h : len - start ≤ k = ltb-false _ _ t in (omega arith, omega arith)
-
-module _ (len start k : ℕ) where
-  pub present-none : len ≤ start → 0 ≡ present len start k
-  unfolding present
-  present-none l = let z : len - start ≡ 0 = omega arith in rw z (by-false k 0 (le-ltb k 0 (omega arith)))
-
-  pub present-some : k < len - start → k ≡ present len start k
-  unfolding present
-  present-some l = by-true _ _ (lt-ltb k (len - start) l)
-
-  pub present-rest : len - start ≤ k → len - start ≡ present len start k
-  unfolding present
-  present-rest l = by-false _ _ (le-ltb k (len - start) l)
-
-present-ends : (len start k : ℕ) {there : ℕ} → there ≡ present len start k → there < k → len ≤ start + there
-unfolding present
-present-ends len start k e l = by (ltb k (len - start)) refl e l
-  where
-    by : (b : Bool) → ltb k (len - start) ≡ b → {there : ℕ} → there ≡ pick b k (len - start) → there < k → len ≤ start + there
-    by true t e l = absurd (omega arith)
-    by false t e l = omega arith
+use Rattle.reader.specs.HighSlots.{highFrom}
 
 -- ---- one slot: it is not there; it is too high; it is passed
 module _ (s : List ℕ) (k at n : ℕ) where
@@ -52,23 +21,23 @@ module _ (s : List ℕ) (k at n : ℕ) where
   unfolding slotsFrom
   slot-missing l = rw (le-leb (length s) at l)
 
-  slot-high : at < length s → n < getD s at 0 → slotsFrom s (suc k) at n ≡ outcome.Refused (refusal.BadSlot at)
+  slot-high : at < length s → high s n at ≡ true → slotsFrom s (suc k) at n ≡ outcome.Refused (refusal.BadSlot at)
   unfolding slotsFrom
-  slot-high l h = rw (lt-leb (length s) at l, lt-ltb n (getD s at 0) h)
+  slot-high l h = rw (lt-leb (length s) at l, h)
 
-  slot-passed : at < length s → getD s at 0 ≤ n → slotsFrom s (suc k) at n ≡ slotsFrom s k (at + 1) n
+  slot-passed : at < length s → high s n at ≡ false → slotsFrom s (suc k) at n ≡ slotsFrom s k (at + 1) n
   unfolding slotsFrom
-  slot-passed l h = rw (lt-leb (length s) at l, le-ltb n (getD s at 0) h)
+  slot-passed l h = rw (lt-leb (length s) at l, h)
 
 -- over slots none of which is too high, to the place behind them
-over : (s : List ℕ) (n j k at : ℕ) → j ≤ k → j ≤ length s - at → ((i : ℕ) → i < j → getD s (at + i) 0 ≤ n)
+over : (s : List ℕ) (n j k at : ℕ) → j ≤ k → j ≤ length s - at → ((i : ℕ) → i < j → highFrom s n at i ≡ false)
     → slotsFrom s k at n ≡ slotsFrom s (k - j) (at + j) n
 over s n zero k at l room low = let e : k - 0 ≡ k = omega arith in let f : at + 0 ≡ at = omega arith in rw (e, f)
 over s n (suc j) (suc k) at l room low =
     let z : at + 0 ≡ at = omega arith in
     let e : at + 1 + j ≡ at + suc j = omega arith in
     let f : suc k - suc j ≡ k - j = omega arith in
-    let next : (i : ℕ) → i < j → getD s (at + 1 + i) 0 ≤ n = λ i x. let g : at + suc i ≡ at + 1 + i = omega arith in rw g at (low (suc i) (omega arith)) in
+    let next : (i : ℕ) → i < j → highFrom s n (at + 1) i ≡ false = λ i x. let g : at + suc i ≡ at + 1 + i = omega arith in rw g at (low (suc i) (omega arith)) in
     slot-passed s k at n (omega arith) (rw z at (low 0 (omega arith))) ∙ over s n j k (at + 1) (omega arith) (omega arith) next ∙ rw (e, f)
 over s n (suc j) zero at l room low = absurd (omega arith)
 
@@ -83,32 +52,23 @@ high-in-part s at there n room e-is =
     ∙ ap (least (high part n)) (part-length s at there room)
     ∙ least-same (high part n) (highFrom s n at) there (λ i l. ap (ltb n) (part-entry 0 s at there i l))
 
-module _ (s : List ℕ) (k at n : ℕ) {there e : ℕ} (there-is : there ≡ present (length s) at k) (e-is : e ≡ least (highFrom s n at) there) where
-  few : (there ≤ k) × (there ≤ length s - at)
-  few = present-fits (length s) at k there-is
-
+module _ (s : List ℕ) (k at n : ℕ) {there e : ℕ} (there-is : there ≡ min k (length s - at)) (e-is : e ≡ least (highFrom s n at) there) where
   first : Least (highFrom s n at) there e
   first = rw e-is (least-is (highFrom s n at) there)
 
-  low : (i : ℕ) → i < e → getD s (at + i) 0 ≤ n
-  unfolding high
-  low i l = ltb-false n (getD s (at + i) 0) (first .before i l)
-
   -- ---- what the slots answer
   pub slots-high : e < there → outcome.Refused (refusal.BadSlot (at + e)) ≡ slotsFrom s k at n
-  unfolding high
   slots-high l =
-      let z : k - e ≡ suc (k - (e + 1)) = omega (arith, few) in
-      let h : n < getD s (at + e) 0 = ltb-true n (getD s (at + e) 0) (first .found l) in
-      sym (over s n e k at (omega (arith, few)) (omega (arith, few)) low ∙ rw z (slot-high s (k - (e + 1)) (at + e) n (omega (arith, few)) h))
+      let z : k - e ≡ suc (k - (e + 1)) = omega arith in
+      sym (over s n e k at (omega arith) (omega arith) (first .before) ∙ rw z (slot-high s (k - (e + 1)) (at + e) n (omega arith) (first .found l)))
 
   to-end : there ≤ e → slotsFrom s k at n ≡ slotsFrom s (k - there) (at + there) n
-  to-end h = over s n there k at (few .0) (few .1) (λ i l. low i (omega arith))
+  to-end h = over s n there k at (omega arith) (omega arith) (λ i l. first .before i (omega arith))
 
   pub slots-ended : there ≤ e → there < k → outcome.Refused (refusal.Ends (length s)) ≡ slotsFrom s k at n
   slots-ended h l =
       let z : k - there ≡ suc (k - (there + 1)) = omega arith in
-      sym (to-end h ∙ rw z (slot-missing s (k - (there + 1)) (at + there) n (present-ends (length s) at k there-is l)))
+      sym (to-end h ∙ rw z (slot-missing s (k - (there + 1)) (at + there) n (omega arith)))
 
   all-there : there ≤ e → k ≤ there → slotsFrom s k at n ≡ slotsFrom s 0 (at + there) n
   all-there h l = let z : k - there ≡ 0 = omega arith in to-end h ∙ rw z

@@ -3,11 +3,12 @@ use mathlib.Core.Bool.{true, false}
 use mathlib.Core.List.{List}
 use Prim.Native.Nat.{ℕ, zero, suc, _+_, _*_}
 use lib.Dec.{leb, ltb, eqb}
-use lib.ListN.{length, getD}
+use lib.ListN.{length}
 use Rattle.vocabulary.specs.Test.{pick}
 use Rattle.kinds.specs.declared.TaskSet.{TaskSet}
 use Rattle.kinds.specs.declared.Counts.{Counts}
 use Rattle.kinds.specs.Build.{noTasks}
+use Rattle.slots.specs.High.{high}
 use Rattle.numbers.specs.declared.Refusal.{Refusal}
 use Rattle.numbers.specs.declared.Refusal.the-variants as refusal
 use Rattle.heads.specs.declared.Outcome.{Outcome}
@@ -25,7 +26,7 @@ unfoldable pub slotsFrom : List ℕ → ℕ → ℕ → ℕ → Outcome
 slotsFrom s zero at n = pick (ltb at (length s)) (outcome.Refused (refusal.LeftOver at)) (outcome.At at)
 slotsFrom s (suc k) at n =
     let r : Outcome = slotsFrom s k (at + 1) n in
-    pick (leb (length s) at) (outcome.Refused (refusal.Ends (length s))) (pick (ltb n (getD s at 0)) (outcome.Refused (refusal.BadSlot at)) r)
+    pick (leb (length s) at) (outcome.Refused (refusal.Ends (length s))) (pick (high s n at) (outcome.Refused (refusal.BadSlot at)) r)
 
 -- ---- the whole file
 abbrev pub loaded : Outcome → TaskSet → Loaded

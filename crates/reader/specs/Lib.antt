@@ -1,3 +1,3 @@
 pub mod Answers
 pub mod Files
-pub mod Present
+pub mod HighSlots

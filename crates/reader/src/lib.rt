@@ -1,12 +1,12 @@
 // The reader of plan files, edition 1.
 ghost use mathlib.Core.Path.{_≡_};
 ghost use mathlib.Core.Bool.{true};
-ghost use Prim.Native.Nat.{_*_, _-_, _≤_};
+ghost use Prim.Native.Nat.{_*_, _-_, _≤_, min};
 ghost use lib.ListN.{length, getD};
 ghost use Rattle.vocabulary.specs.Least.{least};
 ghost use Rattle.numbers.specs.Answers.{refusalNumber, refusalEvidence};
 ghost use Rattle.reader.specs.Answers.{numberOf, evidenceOf};
-ghost use Rattle.reader.specs.Present.{present, highFrom};
+ghost use Rattle.reader.specs.HighSlots.{highFrom};
 ghost use Rattle.heads.specs.Tables.{patternTables};
 ghost use Rattle.reader.specs.Files.{endedOf, closedOf, wholeOf, slotsFrom, refused, readOf, notTaken, takenOf, noCounts, wholeRead, wholeFrom};
 use heads::Head;
@@ -32,7 +32,7 @@ pub struct Taking {
 
 // How many of the k slots from a place on stand in a file of so many bytes.
 fn slots_present(length: usize, start: usize, k: u64) -> usize
-    ensures { λ r. ⌜ r ≡ present length start k ⌝ }
+    ensures { λ r. ⌜ r ≡ min k (length - start) ⌝ }
 {
     if length <= start {
         return 0;

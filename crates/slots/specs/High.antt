@@ -1,4 +1,4 @@
--- Rule R7.5, which is about 12: the slot at place e is above the task count n.
+-- Rules R7.5 and R6.8, which are about 12 and 7: the slot at place e is above the task count n.
 use mathlib.Core.Bool.{Bool}
 use mathlib.Core.List.{List}
 use Prim.Native.Nat.{ℕ}
