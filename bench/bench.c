@@ -21,11 +21,15 @@ static size_t slot_count(void) { return file.length - file.tasks; }
 /* ---- the jobs, each in both ways. A step goes on from the last state, so that whole cycles are played. */
 static void read_archive(void) { sink = flute_read(file.bytes, file.length); }
 static void read_plain(void) { sink = plain_read(file.bytes, file.length, &set).number; }
+static uint8_t written[2][FLUTE_LONGEST_FILE];
+static void write_archive(void) { sink = flute_write(file.bytes, file.tasks, slots(), slot_count(), written[0], sizeof written[0]); }
+static void write_plain(void) { sink = plain_write(file.bytes, file.tasks, slots(), slot_count(), written[1], sizeof written[1]).number; }
 static void screen_archive(void) { sink = flute_screen(file.bytes, file.tasks); }
 static void screen_plain(void) { sink = plain_screen(file.bytes, file.tasks).number; }
 static void judge_archive(void) { sink = flute_judge(file.bytes, file.tasks, slots(), slot_count()); }
 static void judge_plain(void) { sink = plain_judge(file.bytes, file.tasks, slots(), slot_count()).number; }
 static void read_shown(void) { sink = flute_read_evidence(file.bytes, file.length, 0); }
+static void write_shown(void) { sink = flute_write_evidence(file.bytes, file.tasks, slots(), slot_count(), written[0], sizeof written[0], 0); }
 static void screen_shown(void) { sink = flute_screen_evidence(file.bytes, file.tasks, 0); }
 static void judge_shown(void) { sink = flute_judge_evidence(file.bytes, file.tasks, slots(), slot_count(), 0); }
 static int32_t releases[FLUTE_MOST_JOBS], deadlines[FLUTE_MOST_JOBS];
@@ -54,13 +58,14 @@ static const struct {
     const char *name;
     void (*archive)(void), (*plain)(void), (*shown)(void);
 } calls[] = {{"read", read_archive, read_plain, read_shown},
+             {"write", write_archive, write_plain, write_shown},
              {"screen", screen_archive, screen_plain, screen_shown},
              {"adjust", adjust_archive, adjust_plain, adjust_shown},
              {"judge", judge_archive, judge_plain, judge_shown},
              {"start", start_archive, start_plain, start_shown},
              {"step", step_archive, step_plain, step_shown},
 };
-enum { CALLS = sizeof calls / sizeof *calls };
+enum { READ, WRITE, CALLS = sizeof calls / sizeof *calls }; /* the first two are called by name */
 
 /* ---- times */
 static double now(void)
@@ -249,13 +254,15 @@ int main(int argc, char **argv)
     full(&file);
     rows("every slot in use: 64 tasks, 8 processors, H 6,000, no link");
     longest_file(&file);
-    row(0, "longest file: 64 tasks, 64 patterns, 1,024 pairs");
+    row(READ, "longest file: 64 tasks, 64 patterns, 1,024 pairs");
+    row(WRITE, "");
     file.length = file.tasks;
-    row(0, "its head alone, after which the file ends (1)");
+    row(READ, "its head alone, after which the file ends (1)");
+    row(WRITE, "its head alone, with a plan of no slots (11)");
     periods(&file, 240, 250);
-    row(0, "64 tasks of two periods in turn, no pattern, no slots (1)");
+    row(READ, "64 tasks of two periods in turn, no pattern, no slots (1)");
     periods(&file, 250, 250);
-    row(0, "the same with one period: the difference is the share of the common multiple");
+    row(READ, "the same with one period: the difference is the share of the common multiple");
     printf("\n## Growth\n\nAccepted plans for 8 processors, about half of their slots in use; each task but the last has 10 jobs in a cycle, and half of the tasks precede "
            "another.\nA time, and in brackets its ratio to plain C.\n\n");
     growth_head();

@@ -72,7 +72,7 @@ static void largest(made *f)
     f->jobs = 2048;
 }
 
-/* The longest head: 64 tasks, 64 patterns, 1,024 pairs, most numbers of two bytes; with any 48,000 slots behind it the largest file to read. */
+/* A head of 64 tasks, 64 patterns and 1,024 pairs, most numbers of its tasks of two bytes; with any 48,000 slots behind it. */
 static void longest_file(made *f)
 {
     uint32_t i, j, k, patterns = 0;
@@ -105,6 +105,42 @@ static void longest_file(made *f)
     f->cycle = 6000;
     f->count = 64;
     f->jobs = 1568;
+}
+
+/* The longest file that there is, of 51,783 bytes. A number of a pair has two bytes only where a task has over 128 jobs until the two come together, and so a
+   period below 47 and numbers of one byte; the other number has one byte then. Here it is task 0, with 1,500 jobs; the others have one each. As many pair
+   counts as can be, 7, have two bytes. */
+static void longest_of_all(made *f)
+{
+    uint32_t i, k;
+    f->length = 0;
+    put(f, 1);
+    put(f, 64);
+    put(f, 8);
+    for (i = 0; i < 64; i++) {
+        put(f, i ? 6000 : 4);
+        put(f, i ? 130 : 1);
+        put(f, i ? 140 : 0);
+        put(f, i ? 200 : 4);
+    }
+    put(f, 64);
+    for (i = 1; i <= 64; i++) { /* the last goes back from task 1 */
+        uint32_t back = i == 64, count = i <= 7 ? 128 : back ? 16 : 2;
+        put(f, back ? 1 : 0);
+        put(f, back ? 0 : i);
+        put(f, count);
+        for (k = 0; k < count; k++) {
+            put(f, back ? 0 : 1372 + k);
+            put(f, back ? 1372 + k : 0);
+        }
+    }
+    f->tasks = f->length;
+    for (k = 0; k < 48000; k++)
+        f->bytes[f->length++] = (uint8_t)(k % 65);
+    f->processors = 8;
+    f->cycle = 6000;
+    f->count = 64;
+    f->jobs = 1563;
 }
 
 /* A head of 64 tasks with two periods in turn, and no pattern: its file ends there, which the reader refuses after all of the head's work. */

@@ -145,6 +145,66 @@ static int head_of(const uint8_t *tasks, size_t length, plain_set *s)
     return !c.refused.number && c.at == length;
 }
 
+/* ---- the writer */
+static size_t size_of(uint32_t x) { return x < 128 ? 1 : x < 16384 ? 2 : 3; }
+
+static size_t head_size(const plain_set *s)
+{
+    size_t n = 4 + 2 * s->patterns; /* edition, task count, m, pattern count and the tasks of a pattern have a byte each */
+    uint32_t i, pairs = 0;
+    for (i = 0; i < s->tasks; i++)
+        n += size_of(s->period[i]) + size_of(s->running[i]) + size_of(s->offset[i]) + size_of(s->deadline[i]);
+    for (i = 0; i < s->patterns; i++) {
+        n += size_of(s->pairs[i]);
+        pairs += s->pairs[i];
+    }
+    for (i = 0; i < pairs; i++)
+        n += size_of(s->first[i]) + size_of(s->second[i]);
+    return n;
+}
+
+/* A number in its shortest form; the place behind it. */
+static uint8_t *put(uint8_t *to, uint32_t x)
+{
+    for (; x >= 128; x >>= 7)
+        *to++ = (uint8_t)(x | 128);
+    *to++ = (uint8_t)x;
+    return to;
+}
+
+static uint8_t *put_head(uint8_t *to, const plain_set *s)
+{
+    uint32_t i, j, at = 0;
+    to = put(put(put(to, s->edition), s->tasks), s->processors);
+    for (i = 0; i < s->tasks; i++)
+        to = put(put(put(put(to, s->period[i]), s->running[i]), s->offset[i]), s->deadline[i]);
+    to = put(to, s->patterns);
+    for (i = 0; i < s->patterns; i++) {
+        to = put(put(put(to, s->from[i]), s->to[i]), s->pairs[i]);
+        for (j = 0; j < s->pairs[i]; j++, at++)
+            to = put(put(to, s->first[at]), s->second[at]);
+    }
+    return to;
+}
+
+plain_answer plain_write(const uint8_t *tasks, size_t tasks_len, const uint8_t *plan, size_t plan_len, uint8_t *out, size_t out_len)
+{
+    static plain_set s;
+    size_t length, e;
+    if (!head_of(tasks, tasks_len, &s))
+        return say(10, 0, 0, 0);
+    if (plan_len != (size_t)s.processors * s.cycle)
+        return say(11, 0, 0, 0);
+    for (e = 0; e < plan_len; e++)
+        if (plan[e] > s.tasks)
+            return say(12, (uint32_t)e, 0, 0);
+    length = head_size(&s) + plan_len;
+    if (out_len < length)
+        return say(18, 0, 0, 0);
+    memcpy(put_head(out, &s), plan, plan_len);
+    return say(0, (uint32_t)length, 0, 0);
+}
+
 /* ---- jobs and links of a cycle */
 typedef struct {
     uint32_t jobs, base[65];

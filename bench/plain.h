@@ -18,6 +18,7 @@ typedef struct {
 } plain_answer;
 
 plain_answer plain_read(const uint8_t *file, size_t length, plain_set *set);
+plain_answer plain_write(const uint8_t *tasks, size_t tasks_len, const uint8_t *plan, size_t plan_len, uint8_t *out, size_t out_len);
 plain_answer plain_screen(const uint8_t *tasks, size_t tasks_len);
 plain_answer plain_adjust(const uint8_t *tasks, size_t tasks_len, int32_t *releases, size_t releases_len, int32_t *deadlines,
                           size_t deadlines_len);

@@ -45,6 +45,19 @@ extern "C" {
 uint32_t flute_read(const uint8_t *file, size_t file_len);
 uint32_t flute_read_evidence(const uint8_t *file, size_t file_len, uint32_t which);
 
+/* Writes the plan file of tasks and plan: the numbers of the tasks, each in its shortest form, and then the slots. Tested in this order:
+    10  bad tasks
+    11  the plan has not exactly m·H slots
+    12  a slot is above the task count: the lowest such place in the plan
+    18  out is shorter than the file
+     0  the file stands at the start of out: evidence is its length
+   The bytes of out after the file stay as they were; FLUTE_LONGEST_FILE bytes are enough for any file. flute_read takes what was written, and its first slot
+   stands where the tasks end; where tasks and plan are the parts of a file, the same bytes are written. The evidence does not depend on what out holds, so that
+   it can be asked before the call and after it. */
+uint32_t flute_write(const uint8_t *tasks, size_t tasks_len, const uint8_t *plan, size_t plan_len, uint8_t *out, size_t out_len);
+uint32_t flute_write_evidence(const uint8_t *tasks, size_t tasks_len, const uint8_t *plan, size_t plan_len, const uint8_t *out, size_t out_len,
+                              uint32_t which);
+
 /* Looks for reasons why these tasks can have no plan. Tested in this order:
     10  bad tasks
     13  links make a cycle: the lowest job that lies on one

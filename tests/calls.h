@@ -3,6 +3,7 @@
 #define CALLS_H
 #include "../bench/plain.h"
 #include "../include/flute.h"
+#include <string.h>
 
 /* Evidence 0 to 3, and a number far past the last. */
 typedef struct {
@@ -20,14 +21,17 @@ static inline int agrees(answer a, plain_answer b)
 #ifndef ASKED
 #define ASKED() ((void)0)
 #endif
-#define CALL(call, ...) \
+#define ASK(r, call, ...) \
     answer r = {0, {call##_evidence(__VA_ARGS__, 0), call##_evidence(__VA_ARGS__, 1), call##_evidence(__VA_ARGS__, 2), call##_evidence(__VA_ARGS__, 3), \
                     call##_evidence(__VA_ARGS__, UINT32_MAX)}}; \
-    ASKED(); \
+    ASKED()
+#define CALL(call, ...) \
+    ASK(r, call, __VA_ARGS__); \
     r.number = call(__VA_ARGS__); \
     return r
 
 static inline answer call_read(const uint8_t *f, size_t n) { CALL(flute_read, f, n); }
+static inline answer call_write(const uint8_t *t, size_t n, const uint8_t *p, size_t pn, uint8_t *o, size_t on) { CALL(flute_write, t, n, p, pn, o, on); }
 static inline answer call_screen(const uint8_t *t, size_t n) { CALL(flute_screen, t, n); }
 static inline answer call_judge(const uint8_t *t, size_t n, const uint8_t *p, size_t pn) { CALL(flute_judge, t, n, p, pn); }
 static inline answer call_adjust(const uint8_t *t, size_t n, int32_t *a, size_t an, int32_t *d, size_t dn) { CALL(flute_adjust, t, n, a, an, d, dn); }
@@ -35,5 +39,12 @@ static inline answer call_start(const uint8_t *t, size_t n, const uint8_t *p, si
 static inline answer call_step(const uint8_t *t, size_t n, const uint8_t *p, size_t pn, uint64_t rep, uint8_t *s, size_t sn, uint8_t *o, size_t on)
 {
     CALL(flute_step, t, n, p, pn, rep, s, sn, o, on);
+}
+
+/* Whether the evidence of a write, asked again after the call, is what it was before. */
+static inline int asked_again(answer r, const uint8_t *t, size_t n, const uint8_t *p, size_t pn, const uint8_t *o, size_t on)
+{
+    ASK(again, flute_write, t, n, p, pn, o, on);
+    return !memcmp(again.evidence, r.evidence, sizeof r.evidence);
 }
 #endif

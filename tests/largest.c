@@ -1,5 +1,5 @@
 /* The largest plans through the archive: accepted as they are, with one slot changed answered as plain C answers, their adjusted times those of plain C, and
-   three cycles of them played as plain C plays them. */
+   three cycles of them played as plain C plays them. Each file, and the longest there is, is written back as it was. */
 #include "../bench/largest.h"
 #include "calls.h"
 #include <stdio.h>
@@ -44,12 +44,43 @@ static void play_both(const made *f, const uint8_t *slots, const char *what)
     }
 }
 
+/* A write into the first bytes of a buffer: the file stands there and nothing else has changed, or they are too few and nothing has. */
+static void write_into(const made *f, size_t room, const char *what)
+{
+    static uint8_t out[FLUTE_LONGEST_FILE], right[FLUTE_LONGEST_FILE];
+    const uint8_t *slots = f->bytes + f->tasks;
+    size_t n = f->length - f->tasks;
+    plain_answer b = {18, {0, 0, 0}};
+    answer a;
+    memset(out, 0xEE, sizeof out);
+    memset(right, 0xEE, sizeof right);
+    if (room >= f->length) {
+        b.number = 0;
+        b.evidence[0] = (uint32_t)f->length;
+        memcpy(right, f->bytes, f->length);
+    }
+    a = call_write(f->bytes, f->tasks, slots, n, out, room);
+    expect(agrees(a, b), what);
+    expect(asked_again(a, f->bytes, f->tasks, slots, n, out, room), what);
+    expect(!memcmp(out, right, sizeof out), what);
+}
+
+static void write_back(const made *f, const char *what)
+{
+    answer a = call_read(f->bytes, f->length);
+    expect(a.number == 0 && a.evidence[0] == f->tasks, what);
+    write_into(f, 0, what);
+    write_into(f, f->length - 1, what);
+    write_into(f, f->length, what);
+    write_into(f, FLUTE_LONGEST_FILE, what);
+}
+
 static void run(const made *f, const char *what)
 {
     static uint8_t slots[48000];
     size_t n = f->length - f->tasks, k;
     memcpy(slots, f->bytes + f->tasks, n);
-    expect(call_read(f->bytes, f->length).number == 0, what);
+    write_back(f, what);
     expect(call_judge(f->bytes, f->tasks, slots, n).number == 0, what);
     for (k = 0; k < 2000; k++) {
         size_t at = below((uint32_t)n);
@@ -71,6 +102,10 @@ int main(void)
     run(&f, "largest plan");
     full(&f);
     run(&f, "every slot in use");
+    longest_file(&f);
+    write_back(&f, "most pairs");
+    longest_of_all(&f);
+    write_back(&f, "longest file");
     printf("%d passed, %d failed\n", passed, failed);
     return failed != 0;
 }

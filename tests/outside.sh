@@ -65,14 +65,16 @@ ends() {
 }
 
 # The peer first: plain C answers every vector, so that the random cases compare with something that is right.
-for kind in reader judge screen adjusted step; do
-    count "plain C, $kind" $run "$out/vectors_plain" $kind tests/vectors/$kind.txt
+# A file of vectors is named by its kind, behind the number of a request where it came with one.
+vectors=(reader judge screen adjusted step 101-write)
+for name in "${vectors[@]}"; do
+    count "plain C, $name" $run "$out/vectors_plain" "${name#*-}" "tests/vectors/$name.txt"
 done
-for kind in reader judge screen adjusted step; do
-    count "archive, $kind" $run "$out/vectors" $kind tests/vectors/$kind.txt
+for name in "${vectors[@]}"; do
+    count "archive, $name" $run "$out/vectors" "${name#*-}" "tests/vectors/$name.txt"
 done
 count 'archive, largest plans' $run "$out/largest"
-count 'archive against plain C, random cases' $run "$out/random" 200000
+count 'archive against plain C, random cases' $run "$out/random" 300000
 
 # The example on every plan file: examples/NAME.out is what it prints.
 same=0 other=0
@@ -96,6 +98,20 @@ for input in tests/runs/*/*.in; do
 done
 echo "stored runs of programs: $same passed, $other failed"
 
+# Files that a program makes: a copy is the file, byte for byte, and says so; a damaged file leaves what was there.
+same=0 other=0
+for plan in examples/*.plan; do
+    stored "a copy of $plan" <(echo "0 $(wc -c <"$plan") written: the bytes are the same") $run_kit target/bin/flute_copy "$plan" "$out/copy"
+    stored "a copy of $plan" "$plan" cat "$out/copy"
+done
+echo 'as it was' >"$out/copy"
+stored 'a copy of a damaged file' tests/runs/flute_copy/left_over.out $run_kit target/bin/flute_copy tests/runs/flute_copy/left_over.in "$out/copy"
+stored 'a copy of a damaged file' <(echo 'as it was') cat "$out/copy"
+rm "$out/copy"
+stored 'a copy of an empty file' tests/runs/flute_copy/empty.out $run_kit target/bin/flute_copy tests/runs/flute_copy/empty.in "$out/copy"
+ends 1 test -e "$out/copy"
+echo "files that programs make: $same passed, $other failed"
+
 count 'source 003, adjusted times' env RUN="$run_kit" python3 tests/tables.py
 
 # The entry for people runs a program on a file. It ends with 1 after a refusal or finding and with 2 on wrong use; its progress, where it builds first, is on
@@ -111,6 +127,13 @@ ends 1 ./flute show tests/runs/flute_show/left_over.in
 ends 1 ./flute play tests/runs/flute_play/case_e.in
 ends 0 ./flute play tests/runs/flute_play/case_m.in tests/runs/flute_play/case_m.reports
 ends 1 ./flute play tests/runs/flute_play/bad_report.in tests/runs/flute_play/bad_report.reports
+ends 0 ./flute copy examples/case_a.plan "$out/copy"
+ends 0 cmp examples/case_a.plan "$out/copy"
+ends 1 ./flute copy tests/runs/flute_copy/left_over.in "$out/copy"
+ends 2 ./flute copy examples/case_a.plan
+ends 2 ./flute copy examples/case_a.plan tests
+ends 2 ./flute copy examples/case_a.plan "$out/nowhere/copy"
+ends 2 ./flute copy tests/runs/nowhere.in "$out/copy"
 ends 2 ./flute
 ends 2 ./flute judge
 ends 2 ./flute look examples/case_a.plan

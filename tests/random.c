@@ -7,10 +7,10 @@ static void watch(const char *call, int refused);
 #include "lend.h"
 #include "make.h"
 
-enum { READ, SCREEN, ADJUST, JUDGE, START, STEP, KINDS };
-static const char *names[KINDS] = {"read", "screen", "adjust", "judge", "start", "step"};
+enum { READ, WRITE, SCREEN, ADJUST, JUDGE, START, STEP, KINDS };
+static const char *names[KINDS] = {"read", "write", "screen", "adjust", "judge", "start", "step"};
 /* The numbers that each call can answer, so that one that no case met shows. */
-static const uint8_t possible[KINDS][12] = {{0, 1, 2, 3, 4, 5, 6, 7, 8, 9, 255}, {0, 10, 13, 14, 15, 255}, {0, 10, 11, 13, 255},
+static const uint8_t possible[KINDS][12] = {{0, 1, 2, 3, 4, 5, 6, 7, 8, 9, 255}, {0, 10, 11, 12, 18, 255}, {0, 10, 13, 14, 15, 255}, {0, 10, 11, 13, 255},
                                             {0, 10, 11, 12, 20, 21, 22, 23, 255}, {0, 10, 11, 12, 20, 21, 22, 23, 255}, {0, 10, 11, 12, 30, 31, 255}};
 static unsigned long cases, wrong, met[KINDS][64];
 static uint64_t began; /* the seed with which this round began: `random 1 SEED` repeats it */
@@ -79,11 +79,14 @@ static size_t damage(uint8_t *bytes, size_t n)
     return n;
 }
 
-static void try_read(const uint8_t *file, size_t n)
+static answer try_read(const uint8_t *file, size_t n)
 {
     static plain_set s;
+    answer a;
     lent_count = 0;
-    compare(READ, call_read(lend(file, n, coin(), 0), n), plain_read(file, n, &s));
+    a = call_read(lend(file, n, coin(), 0), n);
+    compare(READ, a, plain_read(file, n, &s));
+    return a;
 }
 
 static void try_screen(const uint8_t *tasks, size_t tasks_len)
@@ -196,6 +199,47 @@ static void try_run(const uint8_t *tasks, size_t tasks_len, const uint8_t *plan,
         try_step(tasks, tasks_len, plan, plan_len, f, s2, ns, no);
 }
 
+/* A write into a buffer of some length. What is written is the bytes of tasks and plan, since a head has no number that is not in its shortest form, and it is
+   read back. */
+static void try_write_into(const uint8_t *tasks, size_t tasks_len, const uint8_t *plan, size_t plan_len, size_t no)
+{
+    static uint8_t o2[ROOM];
+    const uint8_t *t, *p;
+    uint8_t *o1;
+    size_t n = tasks_len + plan_len;
+    answer a;
+    any_bytes(o2, no);
+    lent_count = 0;
+    t = lend(tasks, tasks_len, coin(), 0);
+    p = lend(plan, plan_len, coin(), 0);
+    o1 = lend(o2, no, coin(), 1);
+    a = call_write(t, tasks_len, p, plan_len, o1, no);
+    compare(WRITE, a, plain_write(tasks, tasks_len, plan, plan_len, o2, no));
+    equal("write", o1, o2, no);
+    if (!asked_again(a, t, tasks_len, p, plan_len, o1, no))
+        trouble("write", "shows other evidence after the call");
+    if (a.number)
+        return;
+    if (a.evidence[0] != n || no < n || memcmp(o1, tasks, tasks_len) || memcmp(o1 + tasks_len, plan, plan_len)) {
+        trouble("write", "wrote another file than that of tasks and plan");
+        return;
+    }
+    a = try_read(o1, n);
+    if (a.number || a.evidence[0] != tasks_len)
+        trouble("read", "does not give back what was written");
+}
+
+/* Buffers that are a byte too short, exact and longer, and now and then much too short. */
+static void try_write(const uint8_t *tasks, size_t tasks_len, const uint8_t *plan, size_t plan_len)
+{
+    size_t n = tasks_len + plan_len;
+    try_write_into(tasks, tasks_len, plan, plan_len, n ? n - 1 : 0);
+    try_write_into(tasks, tasks_len, plan, plan_len, n);
+    try_write_into(tasks, tasks_len, plan, plan_len, n + 1 + below(100));
+    if (below(4) == 0)
+        try_write_into(tasks, tasks_len, plan, plan_len, below((uint32_t)n));
+}
+
 /* A set at the limits of jobs, cycle and links: n tasks of one period in turn and one that runs once, 256 jobs of each in a cycle, and links of the first
    jobs of two tasks. 8 tasks are a job too many, a period of 24 makes the cycle too long, and 17 patterns are 256 links too many. */
 static void make_crowded(made *f)
@@ -257,6 +301,7 @@ static void try_all(const made *f)
     }
     file_len = below(3) ? damage(file, file_len) : near(file_len);
     try_read(file, file_len);
+    try_write(tasks, tasks_len, plan, plan_len);
     try_screen(tasks, tasks_len);
     try_judge(tasks, tasks_len, plan, plan_len);
     try_adjust(tasks, tasks_len, f->jobs);

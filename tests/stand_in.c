@@ -14,6 +14,20 @@ static plain_answer read_it(const uint8_t *file, size_t file_len)
 uint32_t flute_read(const uint8_t *file, size_t file_len) { return read_it(file, file_len).number; }
 uint32_t flute_read_evidence(const uint8_t *file, size_t file_len, uint32_t which) { return shown(read_it(file, file_len), which); }
 
+/* Where plain C writes, its evidence is asked on buffers of its own. */
+uint32_t flute_write(const uint8_t *tasks, size_t tasks_len, const uint8_t *plan, size_t plan_len, uint8_t *out, size_t out_len)
+{
+    return plain_write(tasks, tasks_len, plan, plan_len, out, out_len).number;
+}
+
+uint32_t flute_write_evidence(const uint8_t *tasks, size_t tasks_len, const uint8_t *plan, size_t plan_len, const uint8_t *out, size_t out_len,
+                              uint32_t which)
+{
+    static uint8_t o[FLUTE_LONGEST_FILE];
+    (void)out;
+    return shown(plain_write(tasks, tasks_len, plan, plan_len, o, out_len), which);
+}
+
 uint32_t flute_screen(const uint8_t *tasks, size_t tasks_len) { return plain_screen(tasks, tasks_len).number; }
 uint32_t flute_screen_evidence(const uint8_t *tasks, size_t tasks_len, uint32_t which) { return shown(plain_screen(tasks, tasks_len), which); }
 
@@ -27,7 +41,6 @@ uint32_t flute_judge_evidence(const uint8_t *tasks, size_t tasks_len, const uint
     return shown(plain_judge(tasks, tasks_len, plan, plan_len), which);
 }
 
-/* Where plain C writes, its evidence is asked on buffers of its own. */
 uint32_t flute_adjust(const uint8_t *tasks, size_t tasks_len, int32_t *releases, size_t releases_len, int32_t *deadlines, size_t deadlines_len)
 {
     return plain_adjust(tasks, tasks_len, releases, releases_len, deadlines, deadlines_len).number;

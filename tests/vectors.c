@@ -1,5 +1,5 @@
 /* Runs the outside cases of tests/vectors through the archive, or through what is linked in its place, and prints each that differs.
-   vectors KIND FILE, with KIND one of reader, judge, screen, adjusted, step. */
+   vectors KIND FILE, with KIND one of reader, judge, screen, adjusted, step, write. */
 #include "calls.h"
 #include <stdio.h>
 #include <stdlib.h>
@@ -159,12 +159,36 @@ static int run_step(char *p)
     return 1;
 }
 
+static int run_write(char *p)
+{
+    static bytes tasks, plan, out, after;
+    long want[5];
+    int n;
+    answer r;
+    memset(out.bytes, 0xEE, sizeof out.bytes);
+    memset(after.bytes, 0xEE, sizeof after.bytes);
+    p = hex(hex(p, &tasks), &plan);
+    out.length = strtoul(p, &p, 10);
+    p = strchr(p, '=');
+    p = numbers(p + 1, want, 5, &n);
+    hex(p, &after);
+    r = call_write(tasks.bytes, tasks.length, plan.bytes, plan.length, out.bytes, out.length);
+    if (!same(r, want, n)) {
+        show(r);
+        return 0;
+    }
+    if (!asked_again(r, tasks.bytes, tasks.length, plan.bytes, plan.length, out.bytes, out.length))
+        return printf("line %d: other evidence after the call\n", number_of_line), 0;
+    if (after.length != out.length || memcmp(after.bytes, out.bytes, sizeof out.bytes))
+        return printf("line %d: another buffer\n", number_of_line), 0;
+    return 1;
+}
 
 static const struct {
     const char *name;
     int (*run)(char *);
 } kinds[] = {{"reader", run_reader}, {"judge", run_judge}, {"screen", run_screen},
-           {"adjusted", run_adjusted}, {"step", run_step}
+           {"adjusted", run_adjusted}, {"step", run_step}, {"write", run_write}
 };
 
 int main(int argc, char **argv)

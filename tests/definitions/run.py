@@ -14,7 +14,7 @@ from edit import change
 
 WORK = os.path.join(TOP, 'target', 'definitions')
 FIRST = {'Marked'}
-PARTS = {'ReaderCases', 'SetCases', 'JudgeCases', 'DispatcherCases'}
+PARTS = {'ReaderCases', 'SetCases', 'WriterCases', 'JudgeCases', 'DispatcherCases'}
 # by an edit's folder, the table that has to fail: what it is called, its files, and the files that must have no error
 TABLES = {'': ('the marked cases', FIRST, set()), 'second': ('the second table', PARTS, FIRST)}
 USE = re.compile(r'^(?:ghost )?use Rattle·(\w+?)(?:·specs)?\.specs\.(\w+)', re.M)

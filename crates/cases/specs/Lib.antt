@@ -3,6 +3,7 @@ pub mod Marked
 pub mod Samples
 pub mod ReaderCases
 pub mod SetCases
+pub mod WriterCases
 pub mod JudgeCases
 pub mod DispatcherCases
 pub mod Second

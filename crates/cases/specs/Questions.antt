@@ -17,6 +17,9 @@ use Rattle.numbers.specs.Answers.{numeralNumber, numeralEvidence}
 use Rattle.numbers.specs.declared.Number.{Number}
 use Rattle.numbers.specs.Numbers.{numberAt}
 use Rattle.reader.specs.Answers as readerAnswers
+use Rattle.writer.specs.declared.Written.{Written}
+use Rattle.writer.specs.Writing.{writeFor, writeHeadFor}
+use Rattle.writer.specs.Answers as writeAnswers
 use Rattle.judge.specs.declared.Verdict.{Verdict}
 use Rattle.judge.specs.Judgement.{verdictOf}
 use Rattle.judge.specs.Heads.{judgedOf}
@@ -55,6 +58,8 @@ pub data Question : Type 0 where
   linking : Set → Question
   -- what does the call for adjusted times answer, and what do two buffers hold afterwards
   adjusting : Set → List ℤ → List ℤ → Question
+  -- what does the writer answer for a plan, and what does a buffer hold afterwards
+  writing : Set → List ℕ → List ℕ → Question
   -- what do starting and stepping answer, and what do they leave in state and output
   starting : Set → List ℕ → State → Question
   stepping : Set → List ℕ → State → ℕ → List ℕ → Question
@@ -62,6 +67,7 @@ pub data Question : Type 0 where
   screeningHead : List ℕ → Question
   adjustingHead : List ℕ → List ℤ → List ℤ → Question
   judgingHead : List ℕ → List ℕ → Question
+  writingHead : List ℕ → List ℕ → List ℕ → Question
   startingHead : List ℕ → List ℕ → List ℕ → Question
   steppingHead : List ℕ → List ℕ → ℕ → List ℕ → List ℕ → Question
 
@@ -75,6 +81,8 @@ pub data Reply : Type 0 where
   at : List ℕ → Reply
   -- number and evidence, and what two buffers hold
   adjusts : List ℕ → List ℤ → List ℤ → Reply
+  -- number and evidence, and what a buffer holds
+  writes : List ℕ → List ℕ → Reply
   -- number and evidence, the state's bytes, and the output
   leaves : List ℕ → List ℕ → List ℕ → Reply
 
@@ -94,6 +102,9 @@ adjustedSaid a = screenAnswers.adjustedNumber a ∷ screenAnswers.adjustedEviden
 abbrev pub verdictSaid : Verdict → List ℕ
 verdictSaid v = judgeAnswers.numberOf v ∷ judgeAnswers.evidenceOf v
 
+abbrev pub writtenSaid : Written → List ℕ
+writtenSaid w = writeAnswers.numberOf w ∷ writeAnswers.evidenceOf w
+
 abbrev pub stepSaid : Answer → List ℕ
 stepSaid a = stepAnswers.numberOf a ∷ stepAnswers.evidenceOf a
 
@@ -111,6 +122,7 @@ reply (runningAt s slots i k) =
 reply (getting s slots i k) = is (ticks (s .tasks) (planOf s slots) i k)
 reply (linking s) = is (links (s .tasks) (s .patterns))
 reply (adjusting s r d) = adjusts (adjustedSaid (adjustedOf s (length r) (length d))) (releasesLeft s r d) (deadlinesLeft s r d)
+reply (writing s slots out) = let x = writeFor s slots out in writes (writtenSaid (x .answer)) (x .out)
 reply (starting s slots state) = let x = startedOf s slots state in leaves (verdictSaid (x .verdict)) (bytesOf (x .state)) []
 reply (stepping s slots state report out) =
     let x = steppedOf s slots state report out in
@@ -118,6 +130,7 @@ reply (stepping s slots state report out) =
 reply (screeningHead head) = says (findingSaid (screenedOf head))
 reply (adjustingHead head r d) = adjusts (adjustedSaid (adjustedHead head (length r) (length d))) (releasesKept head r d) (deadlinesKept head r d)
 reply (judgingHead head slots) = says (verdictSaid (judgedOf head slots))
+reply (writingHead head slots out) = let x = writeHeadFor head slots out in writes (writtenSaid (x .answer)) (x .out)
 reply (startingHead head slots b) = let x = startFor head slots b in leaves (verdictSaid (x .verdict)) (x .state) []
 reply (steppingHead head slots report b out) = let x = stepFor head slots report b out in leaves (stepSaid (x .answer)) (x .state) (x .out)
 

@@ -5,11 +5,12 @@ use mathlib.Core.List.{List, [], _∷_, _++_, map}
 use Rattle.cases.specs.Questions.{Row, Answered, Reply, reply}
 use Rattle.cases.specs.ReaderCases.{readerCases, reader-cases}
 use Rattle.cases.specs.SetCases.{setCases, set-cases}
+use Rattle.cases.specs.WriterCases.{writerCases, writer-cases}
 use Rattle.cases.specs.JudgeCases.{judgeCases, judge-cases}
 use Rattle.cases.specs.DispatcherCases.{dispatcherCases, dispatcher-cases}
 
 abbrev pub secondCases : List Row
-secondCases = readerCases ++ (setCases ++ (judgeCases ++ dispatcherCases))
+secondCases = readerCases ++ (setCases ++ (writerCases ++ (judgeCases ++ dispatcherCases)))
 
 map-both : (f : Row → Reply) (xs ys : List Row) → map f (xs ++ ys) ≡ map f xs ++ map f ys
 map-both f [] ys = refl
@@ -25,4 +26,5 @@ second-cases : Answered secondCases
 second-cases =
     answered-both readerCases _ reader-cases
     (answered-both setCases _ set-cases
-    (answered-both judgeCases dispatcherCases judge-cases dispatcher-cases))
+    (answered-both writerCases _ writer-cases
+    (answered-both judgeCases dispatcherCases judge-cases dispatcher-cases)))

@@ -56,6 +56,24 @@ pub fn load_named(i: usize, buf: &mut [u8]) -> Input
     }
 }
 
+// Writes bytes to the file that argument i names, in place of what it held, and says whether that was done. A file that cannot be written gets a line on
+// standard error.
+pub fn save_named(i: usize, bytes: &[u8]) -> bool {
+    let mut path = io::buffer();
+    let k = os::arg(i, &mut path);
+    let fd = os::open_overwrite(&path[..k]);
+    if fd < 0 {
+        os::fail(&path[..k]);
+        return false;
+    }
+    let done = io::write_all(fd, bytes);
+    libc::close(fd);
+    if !done {
+        os::fail(&path[..k]);
+    }
+    done
+}
+
 // How many bytes of a text count, at most all.
 fn within(n: usize, text: &[u8]) -> usize
     ensures { λ r. ⌜ Counts r (now (text .entry)) ⌝ }

@@ -12,6 +12,9 @@ use Rattle.numbers.specs.declared.Refusal.the-variants as refusal
 use Rattle.numbers.specs.Answers.{refusalEvidence}
 use Rattle.reader.specs.Answers.{numberOf, evidenceOf}
 use Rattle.reader.specs.Files.{readOf}
+use Rattle.writer.specs.declared.Written.{Written}
+use Rattle.writer.specs.Answers as writeAnswers
+use Rattle.writer.specs.Writing.{WriteLeft, writeLeaves}
 use Rattle.judge.specs.declared.Verdict.{Verdict}
 use Rattle.judge.specs.Answers as judgeAnswers
 use Rattle.dispatcher.specs.declared.Answer.{Answer}
@@ -50,6 +53,22 @@ started e n =
 -- two outcomes that the contract allows on the same arguments are equal: number and state's bytes
 pub start-once : {b : StartForC} {r r′ : ℕ} {state state′ : List ℕ} → StartLeft b r state → StartLeft b r′ state′ → (r ≡ r′) × (state ≡ state′)
 start-once p q = (p .number ∙ sym (q .number), p .kept ∙ sym (q .kept))
+
+-- ---- flute_write: the answer's number, and what is left in the buffer
+pub record WroteLeft (l : WriteLeft) (r : ℕ) (out : List ℕ) : Type 0 where
+  pub number : r ≡ writeAnswers.numberOf (l .answer)
+  pub left : out ≡ l .out
+
+pub wrote : {l : WriteLeft} {w : Written} {r : ℕ} {out : List ℕ} → writeLeaves w out ≡ l → r ≡ writeAnswers.numberOf w → WroteLeft l r out
+wrote e n =
+    record {
+      number = n ∙ ap (λ (x : WriteLeft). writeAnswers.numberOf (x .answer)) e;
+      left = ap (λ (x : WriteLeft). x .out) e;
+    }
+
+-- two outcomes that the contract allows on the same arguments are equal: number and buffer
+pub write-once : {l : WriteLeft} {r r′ : ℕ} {out out′ : List ℕ} → WroteLeft l r out → WroteLeft l r′ out′ → (r ≡ r′) × (out ≡ out′)
+write-once p q = (p .number ∙ sym (q .number), p .left ∙ sym (q .left))
 
 -- ---- flute_step: the answer's number, and what is left in the state's bytes and in the output
 pub record StepLeft (l : StepForC) (r : ℕ) (state out : List ℕ) : Type 0 where

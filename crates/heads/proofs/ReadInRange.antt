@@ -38,7 +38,7 @@ same₃ : (f : ℕ → ℕ → ℕ → Bool) {a b c x y z : ℕ} {v : Bool} → 
 same₃ f p q r h = rw (← p, ← q, ← r) h
 
 -- ---- one number
-refused-value : {r : Refusal} {v q : ℕ} → got.Refused r ≡ got.Value v q → ⊥
+pub refused-value : {r : Refusal} {v q : ℕ} → got.Refused r ≡ got.Value v q → ⊥
 refused-value e = let z : _≡_ {A = ℕ} 0 1 = cc in omega arith
 
 held-through : (x : Number) (len at : ℕ) (r : Range) (fault : Refusal) (v next : ℕ) → held x len at r fault ≡ got.Value v next → holds r v ≡ true
@@ -71,7 +71,7 @@ module _ {A : Type 0} where
   went refuse (got.Refused r) k z f e = absurd (f r e)
 
 -- ---- a task
-refused-task : {r : Refusal} {t : Task} {q : ℕ} → taskRead.Refused r ≡ taskRead.Task t q → ⊥
+pub refused-task : {r : Refusal} {t : Task} {q : ℕ} → taskRead.Refused r ≡ taskRead.Task t q → ⊥
 refused-task e = let z : _≡_ {A = ℕ} 0 1 = cc in omega arith
 
 pub task-fits : (s : List ℕ) (p : ℕ) (t : Task) (q : ℕ) → taskFrom s p ≡ taskRead.Task t q → attributesFit t ≡ true
@@ -89,7 +89,7 @@ task-fits s p t q e =
     subst (λ (y : Task). attributesFit y ≡ true) z f
 
 -- ---- two numbers in order
-refused-two : {r : Refusal} {x y q : ℕ} → two.Refused r ≡ two.Both x y q → ⊥
+pub refused-two : {r : Refusal} {x y q : ℕ} → two.Refused r ≡ two.Both x y q → ⊥
 refused-two e = let z : _≡_ {A = ℕ} 0 1 = cc in omega arith
 
 module _ {A : Type 0} where
@@ -130,7 +130,7 @@ two-bounds s p low la lb x y q h e =
     (holds-at _ la x (w .0) .1, holds-at _ lb y (w .1) .1)
 
 -- ---- a pattern's heading
-refused-heading : {r : Refusal} {x y c q : ℕ} → heading.Refused r ≡ heading.Of x y c q → ⊥
+pub refused-heading : {r : Refusal} {x y c q : ℕ} → heading.Refused r ≡ heading.Of x y c q → ⊥
 refused-heading e = let z : _≡_ {A = ℕ} 0 1 = cc in omega arith
 
 some : (l u v : ℕ) → holds (range l u) v ≡ true → leb l v ≡ true
@@ -158,7 +158,7 @@ heading-fits s at low n used x y c q e =
     (fits-by n low (i .first) (i .second) (k .value) used (i .rising) (b .0) (some 1 2097152 (k .value) (let-through _ _ _ _ _ _ (k .is))) (t .0))
 
 -- ---- the numbers before the tasks, and between tasks and patterns
-refused-opening : {r : Refusal} {e n m q : ℕ} → opening.Refused r ≡ opening.Of e n m q → ⊥
+pub refused-opening : {r : Refusal} {e n m q : ℕ} → opening.Refused r ≡ opening.Of e n m q → ⊥
 refused-opening e = let z : _≡_ {A = ℕ} 0 1 = cc in omega arith
 
 pub opening-fits : (s : List ℕ) (e n m q : ℕ) → openingOf s ≡ opening.Of e n m q → openingFits e n m ≡ true
@@ -174,7 +174,7 @@ opening-fits s e n m q w =
     let f : openingFits (i .value) (j .value) (k .value) ≡ true = rw (let-through _ _ _ _ _ _ (i .is), let-through _ _ _ _ _ _ (j .is)) (let-through _ _ _ _ _ _ (k .is)) in
     same₃ openingFits xe xn xm f
 
-refused-middle : {r : Refusal} {c : Cycle} {k q : ℕ} → middle.Refused r ≡ middle.Of c k q → ⊥
+pub refused-middle : {r : Refusal} {c : Cycle} {k q : ℕ} → middle.Refused r ≡ middle.Of c k q → ⊥
 refused-middle e = let z : _≡_ {A = ℕ} 0 1 = cc in omega arith
 
 pub record MiddleFits (t : Tasks) (c : Cycle) (k : ℕ) : Type 0 where

@@ -17,7 +17,7 @@ use Rattle.kinds.specs.Tasks.{Tasks, Patterns, Set, tasksOf, patternsOf}
 use Rattle.kinds.specs.Plans.{Plan, plan}
 use Rattle.kinds.specs.Sound.{sound}
 use Rattle.kinds.proofs.SoundFacts.{Sound, sound-facts}
-use Rattle.kinds.specs.SoundByTests.{CountsFound}
+use Rattle.kinds.specs.SoundByTests.{CountsFound, lent-is}
 use Rattle.judge.specs.declared.Verdict.{Verdict}
 use Rattle.judge.specs.declared.Verdict.the-variants as verdict
 use Rattle.slots.specs.High.{high}
@@ -32,22 +32,13 @@ use Rattle.judge.proofs.SweepLaws.{out-found}
 use Rattle.judge.specs.TableNeeds.{PlanNeeds, Tallied, Counted, AllRan, LinkNeeds}
 use Rattle.judge.proofs.NeedLaws.{fit-needs}
 use Rattle.judge.proofs.CountLaws.{all-counted}
-use Rattle.judge.specs.Lent.{lentSet, lentPlan, misplacedVerdict}
+use Rattle.kinds.specs.Build.{lentSet}
+use Rattle.judge.specs.Lent.{lentPlan, misplacedVerdict}
 
--- A set by value with the numbers that were found is that of its tables.
-module _ (s : Set) {f : Counts} (c : CountsFound s f) where
-  set-is : lentSet f (s .tasks .attributes) (s .patterns .headings) (s .patterns .pairs) ≡ s
-  set-is = by (c .edition) (c .processors) (c .tasks) (c .patterns)
-    where
-      by : {e m n k : ℕ} → e ≡ s .edition → m ≡ s .processors → n ≡ s .tasks .count → k ≡ s .patterns .count
-          → record { edition = e; processors = m; tasks = tasksOf n (s .tasks .attributes); patterns = patternsOf k (s .patterns .headings) (s .patterns .pairs) } ≡ s
-      by a b d g = rw (a, b, d, g)
-
-  pub lent-found : CountsFound (lentSet f (s .tasks .attributes) (s .patterns .headings) (s .patterns .pairs)) f
-  lent-found = subst (λ (z : Set). CountsFound z f) (sym set-is) c
-
-  pub lent-verdict : (slots : List ℕ) → verdictOf (lentSet f (s .tasks .attributes) (s .patterns .headings) (s .patterns .pairs)) slots ≡ verdictOf s slots
-  lent-verdict slots = ap (λ (z : Set). verdictOf z slots) set-is
+-- A set by value with the numbers that were found is judged as its tables are.
+pub lent-verdict : (s : Set) {f : Counts} → CountsFound s f → (slots : List ℕ)
+    → verdictOf (lentSet f (s .tasks .attributes) (s .patterns .headings) (s .patterns .pairs)) slots ≡ verdictOf s slots
+lent-verdict s c slots = ap (λ (z : Set). verdictOf z slots) (lent-is s c)
 
 -- ---- 10 and 11
 pub bad-set : (s : Set) (slots : List ℕ) → sound s ≡ false → verdict.BadSet ≡ verdictOf s slots

@@ -3,7 +3,7 @@ ghost use mathlib.Core.Path.{_≡_};
 ghost use lib.ListN.{length};
 ghost use Rattle.judge.specs.JobOfSlot.{FirstJobs};
 ghost use Rattle.judge.specs.TableNeeds.{Countable};
-ghost use Rattle.judge.specs.Lent.{lentTasks};
+ghost use Rattle.kinds.specs.Build.{lentTasks};
 use kinds::Attributes;
 use kinds::Counts;
 

@@ -5,7 +5,7 @@ ghost use Rattle.kinds.specs.Cycle.{jobsOf};
 ghost use Rattle.judge.specs.Rules.{miscounts};
 ghost use Rattle.judge.specs.Judgement.{verdictFrom};
 ghost use Rattle.judge.specs.TableNeeds.{Tells, Counted};
-ghost use Rattle.judge.specs.Lent.{lentTasks, lentPatterns};
+ghost use Rattle.kinds.specs.Build.{lentTasks, lentPatterns};
 use crate::Lane;
 use crate::Verdict;
 use crate::gets::got;

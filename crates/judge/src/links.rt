@@ -5,7 +5,7 @@ ghost use Rattle.kinds.specs.Links.{repeats};
 ghost use Rattle.judge.specs.Rules.{breaks, brokenPair};
 ghost use Rattle.judge.specs.Judgement.{verdictFrom};
 ghost use Rattle.judge.specs.TableNeeds.{stepsOf, StepsNeeds, PairOf, PatternOf, LinkNeeds};
-ghost use Rattle.judge.specs.Lent.{lentTasks, lentPatterns};
+ghost use Rattle.kinds.specs.Build.{lentTasks, lentPatterns};
 use crate::LinkSteps;
 use crate::Verdict;
 use crate::gets::got;

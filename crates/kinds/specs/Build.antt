@@ -7,7 +7,7 @@ use Rattle.vocabulary.specs.Test.{pick}
 use Rattle.kinds.specs.declared.Task.{Task}
 use Rattle.kinds.specs.declared.Counts.{Counts}
 use Rattle.kinds.specs.declared.TaskSet.{TaskSet}
-use Rattle.kinds.specs.Tasks.{taskOf, pairsIn, putTask, putHeading, putPair}
+use Rattle.kinds.specs.Tasks.{Tasks, Patterns, Set, tasksOf, patternsOf, taskOf, pairsIn, putTask, putHeading, putPair}
 
 -- no task and no pattern: every entry is 0
 abbrev pub noTasks : ℕ → ℕ → TaskSet
@@ -34,6 +34,17 @@ inTables f xs hs ps =
       headings = hs;
       pairs = ps;
     }
+
+-- what they stand for, where the tables are lent and no set is put together
+abbrev pub lentTasks : Counts → List ℕ → Tasks
+lentTasks f xs = tasksOf (f .tasks) xs
+
+abbrev pub lentPatterns : Counts → List ℕ → List ℕ → Patterns
+lentPatterns f hs ps = patternsOf (f .patterns) hs ps
+
+abbrev pub lentSet : Counts → List ℕ → List ℕ → List ℕ → Set
+lentSet f xs hs ps =
+    record { edition = f .edition; processors = f .processors; tasks = lentTasks f xs; patterns = lentPatterns f hs ps }
 
 -- no room for what is added: a task too many is counted
 abbrev pub overfull : TaskSet → TaskSet

@@ -1,5 +1,5 @@
 -- Rule 10 as a whole, test by test in the order of the code: what each test says of `sound`.
-use mathlib.Core.Path.{_≡_, refl, sym, ap, _∙_}
+use mathlib.Core.Path.{_≡_, refl, sym, ap, _∙_, subst}
 use mathlib.Core.Bool.{Bool, true, false, not}
 use Prim.Native.Nat.{ℕ, _<_, _≤_}
 use native.Mathlib.Omega.{arith}
@@ -11,7 +11,8 @@ use Rattle.kinds.specs.declared.Cycle.{Cycle}
 use Rattle.kinds.specs.declared.Tested.{Tested}
 use Rattle.kinds.specs.declared.Counts.{Counts}
 use Rattle.kinds.specs.Limits.{holds, editions, periods}
-use Rattle.kinds.specs.Tasks.{Tasks, Set, period}
+use Rattle.kinds.specs.Tasks.{Tasks, Set, tasksOf, patternsOf, period}
+use Rattle.kinds.specs.Build.{lentSet}
 use Rattle.kinds.specs.Cycle.{cycle, jobs, cycleFits, periodsFit, cycleIs, noCycle, cycleOf}
 use Rattle.kinds.specs.Sound.{attributesFit, taskFits, openingFits, sound, soundCycle, countsOf, PatternsTested, PatternsAsked}
 use Rattle.kinds.specs.RangeLaws.{holds-at, holds-yes, holds-high, cycle-pos}
@@ -97,6 +98,24 @@ counts-found s {f} e z = by (sound s) refl
           jobs = ap (λ (c : Counts). c .jobs) e ∙ rw p;
         }
     by false p = absurd (z (ap (λ (c : Counts). c .ticks) e ∙ rw p))
+
+-- a set by value with the numbers that were found is that of its tables
+module _ (s : Set) {f : Counts} (c : CountsFound s f) where
+  pub lent-is : lentSet f (s .tasks .attributes) (s .patterns .headings) (s .patterns .pairs) ≡ s
+  lent-is = by (c .edition) (c .processors) (c .tasks) (c .patterns)
+    where
+      by : {e m n k : ℕ} → e ≡ s .edition → m ≡ s .processors → n ≡ s .tasks .count → k ≡ s .patterns .count
+          → record {
+            edition = e;
+            processors = m;
+            tasks = tasksOf n (s .tasks .attributes);
+            patterns = patternsOf k (s .patterns .headings) (s .patterns .pairs);
+          }
+          ≡ s
+      by a b d g = rw (a, b, d, g)
+
+  pub lent-found : CountsFound (lentSet f (s .tasks .attributes) (s .patterns .headings) (s .patterns .pairs)) f
+  lent-found = subst (λ (z : Set). CountsFound z f) (sym lent-is) c
 
 -- ---- the ways out
 -- Each section adds one test that passed.

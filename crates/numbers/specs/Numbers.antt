@@ -1,6 +1,6 @@
 -- A number of a plan file.
-use mathlib.Core.List.{List}
-use Prim.Native.Nat.{ℕ, _+_, _*_, _-_}
+use mathlib.Core.List.{List, [], _∷_}
+use Prim.Native.Nat.{ℕ, _+_, _*_, _-_, _/_, _%_}
 use lib.Dec.{leb, ltb, eqb}
 use lib.ListN.{length, getD}
 use Rattle.vocabulary.specs.Test.{pick}
@@ -26,6 +26,13 @@ numberAt s at =
     (pick (ltb (getD s (at + 2) 0) 128)
     (number.Value (getD s at 0 - 128 + 128 * (getD s (at + 1) 0 - 128) + 16384 * getD s (at + 2) 0) (at + 3))
     number.Malformed)))))))
+
+-- The same from the number's side: its bytes, which are one below 128, two below 16,384 and three below 2,097,152. Every byte but the last has its top bit.
+unfoldable pub numberBytes : ℕ → List ℕ
+numberBytes v =
+    pick (ltb v 128) (v ∷ [])
+    (pick (ltb v 16384) ((128 + v % 128) ∷ (v / 128) ∷ [])
+    ((128 + v % 128) ∷ (128 + v / 128 % 128) ∷ (v / 16384) ∷ []))
 
 -- Rule R6.11: what was read at a place of a file of some length, its form first, and then held to a range
 unfoldable pub held : Number → ℕ → ℕ → Range → Refusal → Got

@@ -1,5 +1,5 @@
 -- The three demands on one page, over the bytes that an executive has. A call's outcome is a definition of its input: `startFor`, `stepFor`, `judgedOf`,
--- `screenedOf`; of the call for adjusted times, `AdjustedBy` says it of number and buffers. That the calls have these outcomes is what their contracts say
+-- `screenedOf`, `writeHeadFor`; of the call for adjusted times, `AdjustedBy` says it of number and buffers. That the calls have these outcomes is what their contracts say
 -- (crates/flute/src), for every input and without a fault. What is supposed stands before the last arrow, by its name; the proof is the line below.
 use mathlib.Core.Path.{_≡_, refl, ap, _∙_}
 use mathlib.Core.Bool.{Bool, true, false}
@@ -12,9 +12,14 @@ use Rattle.vocabulary.specs.Test.{pick}
 use Rattle.vocabulary.specs.Bits.{has}
 use Rattle.kinds.specs.Tasks.{Set, view}
 use Rattle.reader.specs.Files.{takenOf}
+use Rattle.writer.specs.declared.Written.{Written}
+use Rattle.writer.specs.declared.Written.the-variants as written
+use Rattle.writer.specs.Answers as writeAnswers
+use Rattle.writer.specs.Format.{bytesOf}
+use Rattle.writer.specs.Writing.{writtenOf, leftIn, writeFor, writeHeadFor}
 use Rattle.screen.specs.declared.Adjusted.{Adjusted}
 use Rattle.screen.specs.declared.Adjusted.the-variants as adjusted
-use Rattle.screen.specs.Answers.{findingNumber, adjustedNumber, written}
+use Rattle.screen.specs.Answers.{findingNumber, adjustedNumber, written as isWritten}
 use Rattle.screen.specs.Findings.{adjustedOf, releasesLeft, deadlinesLeft}
 use Rattle.screen.specs.Heads.{screenedOf, adjustedHead, releasesKept, deadlinesKept, AdjustedBy}
 use Rattle.network.specs.Causes.{releasesOf, deadlinesOf}
@@ -66,16 +71,28 @@ times-refused tasks r d r′ d′ n outcome refused =
     let w = by (takenOf tasks .fits) (adjustedOf s (length r) (length d)) (releasesOf s) (deadlinesOf s) (λ z. refused (outcome .answer ∙ z)) in
     (outcome .releases ∙ w .0, outcome .deadlines ∙ w .1)
   where
-    unwritten : (a : Adjusted) → (adjustedNumber a ≡ 0 → ⊥) → written a ≡ false
+    unwritten : (a : Adjusted) → (adjustedNumber a ≡ 0 → ⊥) → isWritten a ≡ false
     unwritten adjusted.Written h = absurd (h refl)
     unwritten adjusted.BadSet h = refl
     unwritten adjusted.WrongLength h = refl
     unwritten (adjusted.Cycle i k) h = refl
 
     by : (b : Bool) (a : Adjusted) (x y : List ℤ) → (adjustedNumber (pick b a adjusted.BadSet) ≡ 0 → ⊥)
-        → (pick b (pick (written a) x r) r ≡ r) × (pick b (pick (written a) y d) d ≡ d)
+        → (pick b (pick (isWritten a) x r) r ≡ r) × (pick b (pick (isWritten a) y d) d ≡ d)
     by true a x y h = let e = unwritten a h in (rw e, rw e)
     by false a x y h = (refl, refl)
+
+pub write-refused : (tasks plan out : List ℕ) (refused : writeAnswers.numberOf (writeHeadFor tasks plan out .answer) ≡ 0 → ⊥)
+    → writeHeadFor tasks plan out .out ≡ out
+unfolding writeHeadFor writeFor leftIn
+write-refused tasks plan out refused = by (writtenOf (view (takenOf tasks .set)) plan (length out)) refused
+  where
+    by : (w : Written) → (writeAnswers.numberOf w ≡ 0 → ⊥) → leftIn w (bytesOf (view (takenOf tasks .set)) plan) out ≡ out
+    by (written.Length n) h = absurd (h refl)
+    by written.BadSet h = refl
+    by written.WrongLength h = refl
+    by (written.BadSlot e) h = refl
+    by written.TooShort h = refl
 
 -- ==== Demand 2. The judge answers 0 exactly if the tasks are a head and nothing more and the plan is right for ever (`Right`, kinds `Valid`);
 pub judge-accepts-right : (tasks plan : List ℕ) → (judgeAnswers.numberOf (judgedOf tasks plan) ≡ 0) ↔ Right tasks plan

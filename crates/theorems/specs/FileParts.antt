@@ -30,10 +30,10 @@ use Rattle.theorems.specs.NumberPlaces.{same-part}
 use Rattle.theorems.specs.HeadPlaces.{head-place}
 
 -- ---- a file whose first slot has place p: its head ends there
-record HeadedAt (file : List ℕ) (p : ℕ) : Type 0 where
-  counts : Counts
-  is : headOf file .outcome ≡ head.Of counts p
-  set : readOf file .set ≡ setIn (headOf file) counts
+pub record HeadedAt (file : List ℕ) (p : ℕ) : Type 0 where
+  pub counts : Counts
+  pub is : headOf file .outcome ≡ head.Of counts p
+  pub set : readOf file .set ≡ setIn (headOf file) counts
 
 module _ (s : List ℕ) (p : ℕ) where
   by-slots : (f : Counts) (at : ℕ) → headOf s .outcome ≡ head.Of f at → (o : Outcome) → slotsFrom s (f .processors * f .ticks) at (f .tasks) ≡ o
@@ -42,7 +42,7 @@ module _ (s : List ℕ) (p : ℕ) where
   by-slots f at a (outcome.At q) b e = let z : at ≡ p = cc e in record { counts = f; is = rw z at a; set = rw (a, b) }
   by-slots f at a (outcome.Refused r) b e = absurd (refused-at e)
 
-  headed : readOf s .outcome ≡ outcome.At p → HeadedAt s p
+  pub headed : readOf s .outcome ≡ outcome.At p → HeadedAt s p
   unfolding readOf onHead
   headed e = by (headOf s .outcome) refl e
     where
@@ -81,7 +81,7 @@ module _ (file : List ℕ) (p : ℕ) (e : readOf file .outcome ≡ outcome.At p)
       let n : length (take p file) ≡ p = omega (arith, length-take p file) in
       rw (a .again (take p file) (same-part file p l), w .is, n, eq-eqb p p refl, w .set)
 
-  parts-at : TwoParts file p
+  pub parts-at : TwoParts file p
   parts-at =
       let w = headed file p e in
       let a = head-place file noAttributes noPatternTables (w .counts) p (w .is) in

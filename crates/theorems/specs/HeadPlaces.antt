@@ -36,7 +36,7 @@ use Rattle.heads.specs.declared.Head.the-variants as head
 use Rattle.heads.specs.Tables.{timesFrom, taskFrom, TasksRead, onTask, tasksFrom, twoAt, PairsRead, onTwo, pairsFrom, countFrom, headingAt}
 use Rattle.heads.specs.Tables.{PatternTables, withPattern, progress, PatternsRead, onHeading, onPairs, patternFrom, onPattern, patternsFrom}
 use Rattle.heads.specs.Heads.{openingOf, middleFrom, onOpening, onTasks, onMiddle, onPatterns, headFrom}
-use Rattle.heads.proofs.ReadInRange.{went}
+use Rattle.heads.proofs.ReadInRange.{went, refused-task, refused-two, refused-heading, refused-opening, refused-middle}
 use Rattle.heads.proofs.ReadSteps.{tasks-went, pairs-went, patterns-went, patterns-rest, HeadWent, head-went}
 use Rattle.heads.proofs.Bounds.{spans-low, heading-bounds, opening-low, middle-low}
 use Rattle.theorems.specs.NumberPlaces.{SameTo, same-less, GotRead, got-read}
@@ -75,9 +75,6 @@ end-place : {A : Type 0} (s : List ℕ) (p q : ℕ) (z : A) → p ≡ q → Read
 end-place s p q z e = record { rises = omega arith; within = λ l. omega arith; ends = omega arith; again = λ t h. refl }
 
 -- ---- the numbers before the tasks
-no-opening : {r : Refusal} {e n m q : ℕ} → opening.Refused r ≡ opening.Of e n m q → ⊥
-no-opening e = let z : _≡_ {A = ℕ} 0 1 = cc in omega arith
-
 abbrev opening₂ : ℕ → ℕ → List ℕ → ℕ → Opening
 opening₂ e n s p = andThen opening.Refused (gotAt s p processorCounts (refusal.OutOfLimits p)) λ m p₃. opening.Of e n m p₃
 
@@ -87,24 +84,21 @@ opening₁ e s p = andThen opening.Refused (gotAt s p taskCounts (refusal.OutOfL
 module _ (s : List ℕ) (e n m q : ℕ) where
   last₂ : (a b p : ℕ) → opening₂ a b s p ≡ opening.Of e n m q → ReadTo s p q 1 (λ t. opening₂ a b t p)
   last₂ a b p =
-      then-place s p processorCounts (refusal.OutOfLimits p) opening.Refused (λ t. opening.Of a b) (opening.Of e n m q) q 1 0 (λ f x. no-opening x)
+      then-place s p processorCounts (refusal.OutOfLimits p) opening.Refused (λ t. opening.Of a b) (opening.Of e n m q) q 1 0 (λ f x. refused-opening x)
       (λ v p₃ g w. (g .read .one (omega (arith, g .in-range .1)), end-place s p₃ q _ (cc w)))
 
   last₁ : (a p : ℕ) → opening₁ a s p ≡ opening.Of e n m q → ReadTo s p q 2 (λ t. opening₁ a t p)
   last₁ a p =
-      then-place s p taskCounts (refusal.OutOfLimits p) opening.Refused (λ t b. opening₂ a b t) (opening.Of e n m q) q 1 1 (λ f x. no-opening x)
+      then-place s p taskCounts (refusal.OutOfLimits p) opening.Refused (λ t b. opening₂ a b t) (opening.Of e n m q) q 1 1 (λ f x. refused-opening x)
       (λ v p₂ g w. (g .read .one (omega (arith, g .in-range .1)), last₂ a v p₂ w))
 
   opening-place : openingOf s ≡ opening.Of e n m q → ReadTo s 0 q 3 openingOf
   unfolding openingOf
   opening-place =
-      then-place s 0 editions refusal.UnknownEdition opening.Refused (λ t a. opening₁ a t) (opening.Of e n m q) q 1 2 (λ f x. no-opening x)
+      then-place s 0 editions refusal.UnknownEdition opening.Refused (λ t a. opening₁ a t) (opening.Of e n m q) q 1 2 (λ f x. refused-opening x)
       (λ v p₁ g w. (g .read .one (omega (arith, g .in-range .1)), last₁ v p₁ w))
 
 -- ---- a task
-no-task : {r : Refusal} {t : Task} {q : ℕ} → taskRead.Refused r ≡ taskRead.Task t q → ⊥
-no-task e = let z : _≡_ {A = ℕ} 0 1 = cc in omega arith
-
 abbrev task₃ : ℕ → ℕ → ℕ → List ℕ → ℕ → TaskRead
 task₃ t c o s p = andThen taskRead.Refused (gotAt s p (deadlines t c) (refusal.OutOfLimits p)) λ d p₄. taskRead.Task (taskOf t c o d) p₄
 
@@ -118,22 +112,22 @@ module _ (s : List ℕ) (u : Task) (q : ℕ) where
   with₃ : (t c o p : ℕ) → t ≤ 6000 → task₃ t c o s p ≡ taskRead.Task u q → ReadTo s p q 2 (λ x. task₃ t c o x p)
   with₃ t c o p l =
       then-place s p (deadlines t c) (refusal.OutOfLimits p) taskRead.Refused (λ x d. taskRead.Task (taskOf t c o d)) (taskRead.Task u q) q 2 0
-      (λ f x. no-task x) (λ v p₄ g w. (g .read .two (omega (arith, g .in-range .1)), end-place s p₄ q _ (cc w)))
+      (λ f x. refused-task x) (λ v p₄ g w. (g .read .two (omega (arith, g .in-range .1)), end-place s p₄ q _ (cc w)))
 
   with₂ : (t c p : ℕ) → t ≤ 6000 → task₂ t c s p ≡ taskRead.Task u q → ReadTo s p q 4 (λ x. task₂ t c x p)
   with₂ t c p l =
-      then-place s p (offsets t) (refusal.OutOfLimits p) taskRead.Refused (λ x o. task₃ t c o x) (taskRead.Task u q) q 2 2 (λ f x. no-task x)
+      then-place s p (offsets t) (refusal.OutOfLimits p) taskRead.Refused (λ x o. task₃ t c o x) (taskRead.Task u q) q 2 2 (λ f x. refused-task x)
       (λ v p₃ g w. (g .read .two (omega (arith, g .in-range .1)), with₃ t c v p₃ l w))
 
   with₁ : (t p : ℕ) → t ≤ 6000 → task₁ t s p ≡ taskRead.Task u q → ReadTo s p q 6 (λ x. task₁ t x p)
   with₁ t p l =
-      then-place s p (runnings t) (refusal.OutOfLimits p) taskRead.Refused (λ x c. task₂ t c x) (taskRead.Task u q) q 2 4 (λ f x. no-task x)
+      then-place s p (runnings t) (refusal.OutOfLimits p) taskRead.Refused (λ x c. task₂ t c x) (taskRead.Task u q) q 2 4 (λ f x. refused-task x)
       (λ v p₂ g w. (g .read .two (omega (arith, g .in-range .1)), with₂ t v p₂ l w))
 
   task-place : (p : ℕ) → taskFrom s p ≡ taskRead.Task u q → ReadTo s p q 8 (λ x. taskFrom x p)
   unfolding taskFrom timesFrom
   task-place p =
-      then-place s p periods (refusal.OutOfLimits p) taskRead.Refused (λ x t. task₁ t x) (taskRead.Task u q) q 2 6 (λ f x. no-task x)
+      then-place s p periods (refusal.OutOfLimits p) taskRead.Refused (λ x t. task₁ t x) (taskRead.Task u q) q 2 6 (λ f x. refused-task x)
       (λ v p₁ g w. (g .read .two (omega (arith, g .in-range .1)), with₁ v p₁ (omega (arith, g .in-range .1)) w))
 
 tasks-place : (s : List ℕ) (k i at : ℕ) (u : List ℕ) (q : ℕ) → tasksFrom s k i at u .outcome ≡ outcome.At q
@@ -153,22 +147,19 @@ tasks-place s (suc k) i at u q e =
     }
 
 -- ---- two numbers, each below 16,384
-no-two : {r : Refusal} {x y q : ℕ} → two.Refused r ≡ two.Both x y q → ⊥
-no-two e = let z : _≡_ {A = ℕ} 0 1 = cc in omega arith
-
 abbrev two₁ : Key → ℕ → ℕ → List ℕ → ℕ → Two
 two₁ low lb x s p = andThen two.Refused (gotAt s p (secondRange low x lb) (refusal.Disordered p)) λ y p₂. two.Both x y p₂
 
 module _ (s : List ℕ) (low : Key) (la lb x y q : ℕ) (fa : la ≤ 16384) (fb : lb ≤ 16384) where
   and₁ : (a p : ℕ) → two₁ low lb a s p ≡ two.Both x y q → ReadTo s p q 2 (λ t. two₁ low lb a t p)
   and₁ a p =
-      then-place s p (secondRange low a lb) (refusal.Disordered p) two.Refused (λ t. two.Both a) (two.Both x y q) q 2 0 (λ f x. no-two x)
+      then-place s p (secondRange low a lb) (refusal.Disordered p) two.Refused (λ t. two.Both a) (two.Both x y q) q 2 0 (λ f x. refused-two x)
       (λ v p₂ g w. (g .read .two (omega (arith, g .in-range .1)), end-place s p₂ q _ (cc w)))
 
   two-place : (p : ℕ) → twoAt s p low la lb ≡ two.Both x y q → ReadTo s p q 4 (λ t. twoAt t p low la lb)
   unfolding twoAt
   two-place p =
-      then-place s p (firstRange low la) (refusal.Disordered p) two.Refused (λ t a. two₁ low lb a t) (two.Both x y q) q 2 2 (λ f x. no-two x)
+      then-place s p (firstRange low la) (refusal.Disordered p) two.Refused (λ t a. two₁ low lb a t) (two.Both x y q) q 2 2 (λ f x. refused-two x)
       (λ v p₁ g w. (g .read .two (omega (arith, g .in-range .1)), and₁ v p₁ w))
 
 -- ---- pairs
@@ -189,9 +180,6 @@ pairs-place s la lb ha hb (suc k) at low j u q e =
     }
 
 -- ---- a pattern's heading, of tasks below 128
-no-heading : {r : Refusal} {x y c q : ℕ} → heading.Refused r ≡ heading.Of x y c q → ⊥
-no-heading e = let z : _≡_ {A = ℕ} 0 1 = cc in omega arith
-
 abbrev heading₁ : Key → ℕ → ℕ → ℕ → List ℕ → ℕ → Heading
 heading₁ low n used x s p =
     andThen heading.Refused (gotAt s p (secondRange low x n) (refusal.Disordered p)) λ y p₂.
@@ -203,24 +191,24 @@ module _ (s : List ℕ) (at : ℕ) (low : Key) (n used x y c q : ℕ) (l : n ≤
   count-place a b p =
       then-place s p (range 1 2097152) (refusal.Disordered p) heading.Refused
       (λ t d r. pick (leb (used + d) mostPairs) (heading.Of a b d r) (heading.Refused (refusal.OutOfLimits p))) (heading.Of x y c q) q 2 0
-      (λ f x. no-heading x)
+      (λ f x. refused-heading x)
       (λ v r g w.
-      let z = took (leb (used + v) mostPairs) _ _ _ w no-heading in
+      let z = took (leb (used + v) mostPairs) _ _ _ w refused-heading in
       (g .read .two (omega (arith, leb-true (used + v) 1024 (z .0))), end-place s r q _ (cc (z .1))))
 
   to₁ : (a p : ℕ) → heading₁ low n used a s p ≡ heading.Of x y c q → ReadTo s p q 3 (λ t. heading₁ low n used a t p)
   to₁ a p =
       then-place s p (secondRange low a n) (refusal.Disordered p) heading.Refused
-      (λ t b r. pick (eqb a b) (heading.Refused (refusal.Disordered p)) (countFrom t r a b used)) (heading.Of x y c q) q 1 2 (λ f x. no-heading x)
+      (λ t b r. pick (eqb a b) (heading.Refused (refusal.Disordered p)) (countFrom t r a b used)) (heading.Of x y c q) q 1 2 (λ f x. refused-heading x)
       (λ v r g w.
-      let z = missed (eqb a v) _ _ _ w no-heading in
+      let z = missed (eqb a v) _ _ _ w refused-heading in
       (g .read .one (omega (arith, g .in-range .1)), rw (z .0) (count-place a v r (z .1))))
 
   heading-place : headingAt s at low n used ≡ heading.Of x y c q → ReadTo s at q 4 (λ t. headingAt t at low n used)
   unfolding headingAt
   heading-place =
       then-place s at (firstRange low n) (refusal.Disordered at) heading.Refused (λ t a. heading₁ low n used a t) (heading.Of x y c q) q 1 3
-      (λ f x. no-heading x) (λ v p₁ g w. (g .read .one (omega (arith, g .in-range .1)), to₁ v p₁ w))
+      (λ f x. refused-heading x) (λ v p₁ g w. (g .read .one (omega (arith, g .in-range .1)), to₁ v p₁ w))
 
 -- ---- patterns, with all their pairs
 patterns-place : (s : List ℕ) (e : ℕ) (t : Tasks) (h : ℕ) → t .count ≤ 64 → (k i : ℕ) (done : Progress) (u : PatternTables) (q l : ℕ)
@@ -257,14 +245,11 @@ patterns-place s e t h few (suc k) i done u q l few-pairs g =
     }
 
 -- ---- between tasks and patterns
-no-middle : {r : Refusal} {c : Cycle} {k q : ℕ} → middle.Refused r ≡ middle.Of c k q → ⊥
-no-middle e = let z : _≡_ {A = ℕ} 0 1 = cc in omega arith
-
 middle-place : (s : List ℕ) (at : ℕ) (t : Tasks) (c : Cycle) (k q : ℕ) → middleFrom s at t ≡ middle.Of c k q → ReadTo s at q 1 (λ x. middleFrom x at t)
 unfolding middleFrom
 middle-place s at t c k q e =
-    let b = took (cycleFits t) _ _ _ e no-middle in
-    let a = then-place s at patternCounts (refusal.OutOfLimits at) middle.Refused (λ x. middle.Of (cycleIs t)) (middle.Of c k q) q 1 0 (λ f x. no-middle x)
+    let b = took (cycleFits t) _ _ _ e refused-middle in
+    let a = then-place s at patternCounts (refusal.OutOfLimits at) middle.Refused (λ x. middle.Of (cycleIs t)) (middle.Of c k q) q 1 0 (λ f x. refused-middle x)
     (λ v p g w. (g .read .one (omega (arith, g .in-range .1)), end-place s p q _ (cc w))) (b .1) in
     record { rises = a .rises; within = a .within; ends = a .ends; again = λ x m. rw (b .0) (a .again x m) }
 

@@ -33,4 +33,12 @@ pub mod SameTasks
 pub mod SameVerdict
 pub mod SameFinding
 pub mod SameStep
+pub mod SameWriting
 pub mod WhatCounts
+pub mod NumberForms
+pub mod HeadForms
+pub mod NumbersRead
+pub mod TablesRead
+pub mod PatternsRead
+pub mod FormsRead
+pub mod FileMeaning

@@ -17,7 +17,7 @@ use Rattle.numbers.specs.declared.Number.the-variants as number
 use Rattle.numbers.specs.declared.Got.the-variants as got
 use Rattle.numbers.specs.Numbers.{numberAt, held, gotAt}
 use Rattle.numbers.specs.Bytes.{thirdAt, secondAt, number-is}
-use Rattle.heads.proofs.ReadInRange.{let-through}
+use Rattle.heads.proofs.ReadInRange.{let-through, refused-value}
 
 -- t has the bytes of s before place p
 pub record SameTo (s t : List ℕ) (p : ℕ) : Type 0 where
@@ -144,9 +144,6 @@ pub record GotRead (s : List ℕ) (at : ℕ) (r : Range) (fault : Refusal) (v ne
   pub read : NumberRead s at v next
   pub again : (t : List ℕ) → SameTo s t next → gotAt t at r fault ≡ got.Value v next
 
-no-refusal : {r : Refusal} {v q : ℕ} → got.Refused r ≡ got.Value v q → ⊥
-no-refusal e = let z : _≡_ {A = ℕ} 0 1 = cc in omega arith
-
 pub got-read : (s : List ℕ) (at : ℕ) (r : Range) (fault : Refusal) (v next : ℕ) → gotAt s at r fault ≡ got.Value v next → GotRead s at r fault v next
 unfolding gotAt held
 got-read s at r fault v next e =
@@ -155,10 +152,10 @@ got-read s at r fault v next e =
     record { in-range = holds-at (r .low) (r .limit) v h; read = n; again = λ t w. rw (n .again t w, h) }
   where
     by : (x : Number) → numberAt s at ≡ x → held x (length s) at r fault ≡ got.Value v next → NumberRead s at v next
-    by number.Ends q c = absurd (no-refusal c)
-    by number.Malformed q c = absurd (no-refusal c)
+    by number.Ends q c = absurd (refused-value c)
+    by number.Malformed q c = absurd (refused-value c)
     by (number.Value a b) q c =
-        let p = took (holds r a) _ _ _ c no-refusal in
+        let p = took (holds r a) _ _ _ c refused-value in
         let x : a ≡ v = cc (p .1) in
         let y : b ≡ next = cc (p .1) in
         number-read s at v next (rw (x, y) at q)

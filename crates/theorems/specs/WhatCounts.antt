@@ -7,14 +7,17 @@ use Rattle.kinds.specs.Tasks.{Set}
 use Rattle.kinds.specs.Sound.{sound}
 use Rattle.kinds.proofs.WhatCounts.{Agree, sound-agree}
 use Rattle.screen.specs.Findings.{findingOf, adjustedOf, releasesLeft, deadlinesLeft}
+use Rattle.writer.specs.Writing.{writeFor}
 use Rattle.judge.specs.Judgement.{verdictOf}
 use Rattle.dispatcher.specs.declared.State.{State}
 use Rattle.dispatcher.specs.Refusals.{startedOf, steppedOf, leftOf}
 use Rattle.theorems.specs.SameVerdict.{same-verdict, same-start}
 use Rattle.theorems.specs.SameFinding.{same-finding-of, same-adjusted, same-releases-left, same-deadlines-left}
 use Rattle.theorems.specs.SameStep.{same-step, same-left}
+use Rattle.theorems.specs.SameWriting.{same-written}
 
--- two sets get the same from every call: rule 10, the screen, adjusted times with both buffers, the judge, starting, and stepping with the output
+-- two sets get the same from every call: rule 10, the screen, adjusted times with both buffers, the judge, starting, stepping with the
+-- output, and the writer with its buffer
 pub record SameAnswers (s t : Set) : Type 0 where
   pub rule-10 : sound s ≡ sound t
   pub screen : findingOf s ≡ findingOf t
@@ -25,6 +28,7 @@ pub record SameAnswers (s t : Set) : Type 0 where
   pub start : (slots : List ℕ) (state : State) → startedOf s slots state ≡ startedOf t slots state
   pub step : (slots : List ℕ) (state : State) (report : ℕ) (out : List ℕ) → steppedOf s slots state report out ≡ steppedOf t slots state report out
   pub left : (slots : List ℕ) (state : State) (report : ℕ) (out : List ℕ) → leftOf s slots state report out ≡ leftOf t slots state report out
+  pub write : (slots out : List ℕ) → writeFor s slots out ≡ writeFor t slots out
 
 -- ==== Two sets that agree on what counts, which is the edition, m, the counts and the entries within them, get the same answers.
 pub what-counts : (s t : Set) → Agree s t → SameAnswers s t
@@ -39,4 +43,5 @@ what-counts s t g =
       start = same-start s t g;
       step = same-step s t g;
       left = same-left s t g;
+      write = same-written s t g;
     }

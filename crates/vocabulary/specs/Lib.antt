@@ -16,3 +16,4 @@ pub mod Steps
 pub mod Rows
 pub mod Tally
 pub mod Words
+pub mod Parts

@@ -1,6 +1,6 @@
 use mathlib.Core.Path.{_∙_}
-use Rattle.kinds.specs.SoundByTests.{counts-none, counts-found}
-use Rattle.judge.proofs.VerdictChain.{bad-set, lent-found, lent-verdict}
+use Rattle.kinds.specs.SoundByTests.{counts-none, counts-found, lent-found}
+use Rattle.judge.proofs.VerdictChain.{bad-set, lent-verdict}
 use borrow.Author.Needs.{needs}
 use Rattle.judge.proofs.judge.Statement.{statement}
 use Rattle.judge.proofs.judge.Tie as tie

@@ -5,7 +5,7 @@ use Rattle.vocabulary.specs.Least.{Seeking, seek, on}
 use Rattle.kinds.specs.Tasks.{pairsBefore}
 use Rattle.judge.specs.Rules.{brokenPattern}
 use Rattle.judge.specs.TableNeeds.{LinkNeeds}
-use Rattle.judge.specs.Lent.{lentTasks, lentPatterns}
+use Rattle.kinds.specs.Build.{lentTasks, lentPatterns}
 use Rattle.judge.proofs.LinkTableLaws.{pattern-few, steps-needs, pattern-of, pairs-room, pattern-pair, pattern-no, start-from, start-on, link-found, links-end}
 use borrow.Author.Needs.{needs}
 use Rattle.judge.proofs.links.judge_links.Statement.{statement}

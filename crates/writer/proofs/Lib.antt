@@ -1,0 +1,4 @@
+pub mod Widths
+pub mod Turns
+pub mod WholeHead
+pub mod Order
