@@ -107,9 +107,9 @@ static void longest_file(made *f)
     f->jobs = 1568;
 }
 
-/* The longest file that there is, of 51,783 bytes. A number of a pair has two bytes only where a task has over 128 jobs until the two come together, and so a
-   period below 47 and numbers of one byte; the other number has one byte then. Here it is task 0, with 1,500 jobs; the others have one each. As many pair
-   counts as can be, 7, have two bytes. */
+/* The longest file that we can make, of 51,783 bytes; that there is no longer one is argued here and not proved. A number of a pair has two bytes only where a
+   task has over 128 jobs until the two come together, and so a period below 47 and numbers of one byte; the other number has one byte then. Here it is task 0,
+   with 1,500 jobs; the others have one each. As many pair counts as can be, 7, have two bytes. */
 static void longest_of_all(made *f)
 {
     uint32_t i, k;
