@@ -8,6 +8,13 @@ static plain_answer say(uint32_t number, uint32_t a, uint32_t b, uint32_t c)
     return r;
 }
 
+/* 22: a job, how many ticks it gets, and the first and the last of them. */
+static plain_answer say_ticks(uint32_t task, uint32_t job, uint32_t ticks, uint32_t first, uint32_t last)
+{
+    plain_answer r = {22, {task, job, ticks, first, last}};
+    return r;
+}
+
 /* ---- numbers of a file */
 typedef struct {
     const uint8_t *file;
@@ -119,7 +126,7 @@ static void take_head(cursor *c, plain_set *s)
 
 plain_answer plain_read(const uint8_t *file, size_t length, plain_set *set)
 {
-    cursor c = {file, length, 0, {0, {0, 0, 0}}};
+    cursor c = {file, length, 0, {0, {0}}};
     size_t first, k, slots;
     take_head(&c, set);
     if (c.refused.number)
@@ -140,7 +147,7 @@ plain_answer plain_read(const uint8_t *file, size_t length, plain_set *set)
 /* Tasks and m as the C side passes them: 1 where the bytes are a head and nothing more. */
 static int head_of(const uint8_t *tasks, size_t length, plain_set *s)
 {
-    cursor c = {tasks, length, 0, {0, {0, 0, 0}}};
+    cursor c = {tasks, length, 0, {0, {0}}};
     take_head(&c, s);
     return !c.refused.number && c.at == length;
 }
@@ -391,8 +398,10 @@ static plain_answer judge_set(const plain_set *s, const uint8_t *plan, size_t pl
         }
     for (i = 0; i < s->tasks; i++)
         for (k = 0; k < h / s->period[i]; k++)
-            if (count[base[i] + k] != s->running[i])
-                return say(22, i, k, count[base[i] + k]);
+            if (count[base[i] + k] != s->running[i]) {
+                uint32_t release = s->offset[i] + k * s->period[i], x = base[i] + k;
+                return count[x] ? say_ticks(i, k, count[x], first[x], last[x]) : say_ticks(i, k, 0, release, release);
+            }
     for (i = 0; i < s->patterns; i++) {
         uint32_t p = lcm(s->period[s->from[i]], s->period[s->to[i]]);
         for (q = 0; q < s->pairs[i]; q++, pairs++)

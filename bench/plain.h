@@ -1,4 +1,4 @@
-/* The same jobs in plain C, written from document 01 and from nothing of the proved code: the peer of the tests and of the benchmark. */
+/* The same jobs in plain C, written from document 01 and the requests and from nothing of the proved code: the peer of the tests and of the benchmark. */
 #ifndef PLAIN_H
 #define PLAIN_H
 #include <stddef.h>
@@ -13,8 +13,9 @@ typedef struct {
 } plain_set;
 
 /* A number of document 01 (0 where nothing is refused) and its evidence; what is not evidence reads 0. */
+enum { PLAIN_EVIDENCE = 5 };
 typedef struct {
-    uint32_t number, evidence[3];
+    uint32_t number, evidence[PLAIN_EVIDENCE];
 } plain_answer;
 
 plain_answer plain_read(const uint8_t *file, size_t length, plain_set *set);

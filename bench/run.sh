@@ -12,7 +12,7 @@ $cc -O3 bench/bench.c $with -o target/bench/bench
 cat <<PAGE
 # Times, stack and size
 
-Printed by \`bench/run.sh\`. Measured and not proved: another machine has other times. Archive and plain C (\`bench/plain.c\`, the same jobs written from document 01,
+Printed by \`bench/run.sh\`. Measured and not proved: another machine has other times. Archive and plain C (\`bench/plain.c\`, the same jobs written from document 01 and the requests,
 \`gcc -O3\`) are in one program and take turns; a time is the best of 60 short rounds, so that what else the machine did in a round counts little. A ratio below 1 means
 that the archive is faster.
 

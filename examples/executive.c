@@ -26,11 +26,12 @@ static unsigned processors;
 static uint32_t number;
 #define REFUSES(call, ...) \
     ((number = call(__VA_ARGS__)) \
-     && said(#call, call##_evidence(__VA_ARGS__, 0), call##_evidence(__VA_ARGS__, 1), call##_evidence(__VA_ARGS__, 2)))
+     && said(#call, (uint32_t[]){call##_evidence(__VA_ARGS__, 0), call##_evidence(__VA_ARGS__, 1), call##_evidence(__VA_ARGS__, 2), \
+                                 call##_evidence(__VA_ARGS__, 3), call##_evidence(__VA_ARGS__, 4)}))
 
-static int said(const char *call, uint32_t a, uint32_t b, uint32_t c)
+static int said(const char *call, const uint32_t e[5])
 {
-    fprintf(stderr, "%s refuses by %u, evidence %u %u %u\n", call, number, a, b, c);
+    fprintf(stderr, "%s refuses by %u, evidence %u %u %u %u %u\n", call, number, e[0], e[1], e[2], e[3], e[4]);
     return 1;
 }
 

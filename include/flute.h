@@ -84,7 +84,8 @@ uint32_t flute_adjust_evidence(const uint8_t *tasks, size_t tasks_len, const int
     12  a slot is above the task count: the lowest such place in the plan
     20  a task stands twice in one tick: tick, lower processor, higher processor
     21  a slot lies outside its task's windows: tick, processor
-    22  a job's ticks in its window are not its running time: task, job, ticks that it gets
+    22  a job's ticks in its window are not its running time: task, job, how many ticks it gets, and the first and the last of them, in true time, so that
+        they may be past H; for a job with no ticks its release for both
     23  a link is broken: pattern, pair, and k, which repetition of the pair it is, below H/p
      0  accepted: every job always gets its running time inside its window, on one processor at a time, and every precedence is kept
    Nothing is written. */

@@ -5,16 +5,16 @@
 #include "../include/flute.h"
 #include <string.h>
 
-/* Evidence 0 to 3, and a number far past the last. */
+/* Evidence 0 to 5, of which there are five at most, and a number far past the last. */
+enum { ASKED_FOR = PLAIN_EVIDENCE + 2 };
 typedef struct {
-    uint32_t number, evidence[5];
+    uint32_t number, evidence[ASKED_FOR];
 } answer;
 
 /* Right where number and evidence are plain C's, and nothing is shown past the last. */
 static inline int agrees(answer a, plain_answer b)
 {
-    return a.number == b.number && a.evidence[0] == b.evidence[0] && a.evidence[1] == b.evidence[1] && a.evidence[2] == b.evidence[2] && !a.evidence[3]
-           && !a.evidence[4];
+    return a.number == b.number && !memcmp(a.evidence, b.evidence, sizeof b.evidence) && !a.evidence[PLAIN_EVIDENCE] && !a.evidence[PLAIN_EVIDENCE + 1];
 }
 
 /* The evidence is asked first, on the arguments as they come, since the call may write some of them; a test may look at them in between. */
@@ -23,7 +23,7 @@ static inline int agrees(answer a, plain_answer b)
 #endif
 #define ASK(r, call, ...) \
     answer r = {0, {call##_evidence(__VA_ARGS__, 0), call##_evidence(__VA_ARGS__, 1), call##_evidence(__VA_ARGS__, 2), call##_evidence(__VA_ARGS__, 3), \
-                    call##_evidence(__VA_ARGS__, UINT32_MAX)}}; \
+                    call##_evidence(__VA_ARGS__, 4), call##_evidence(__VA_ARGS__, 5), call##_evidence(__VA_ARGS__, UINT32_MAX)}}; \
     ASKED()
 #define CALL(call, ...) \
     ASK(r, call, __VA_ARGS__); \

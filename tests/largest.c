@@ -50,7 +50,7 @@ static void write_into(const made *f, size_t room, const char *what)
     static uint8_t out[FLUTE_LONGEST_FILE], right[FLUTE_LONGEST_FILE];
     const uint8_t *slots = f->bytes + f->tasks;
     size_t n = f->length - f->tasks;
-    plain_answer b = {18, {0, 0, 0}};
+    plain_answer b = {18, {0}};
     answer a;
     memset(out, 0xEE, sizeof out);
     memset(right, 0xEE, sizeof right);

@@ -66,7 +66,7 @@ ends() {
 
 # The peer first: plain C answers every vector, so that the random cases compare with something that is right.
 # A file of vectors is named by its kind, behind the number of a request where it came with one.
-vectors=(reader judge screen adjusted step 101-write)
+vectors=(reader 102-judge screen adjusted step 101-write)
 for name in "${vectors[@]}"; do
     count "plain C, $name" $run "$out/vectors_plain" "${name#*-}" "tests/vectors/$name.txt"
 done
@@ -82,6 +82,8 @@ for plan in examples/*.plan; do
     stored "plain C, $plan" "${plan%.plan}.out" $run "$out/executive_plain" "$plan"
     stored "archive, $plan" "${plan%.plan}.out" $run "$out/executive" "$plan"
 done
+# A refusal shows its number and evidence, of 22 all five.
+stored 'the example on case E' <(echo 'flute_judge refuses by 22, evidence 0 2 4 20 23') $run "$out/executive" tests/runs/flute_judge/case_e.in
 echo "example executive: $same passed, $other failed"
 
 # Stored runs of the programs: tests/runs/PROGRAM/NAME.in is what it reads, NAME.out what it prints; NAME.reports, where it is there, a second file.

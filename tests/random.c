@@ -21,14 +21,51 @@ static void trouble(const char *call, const char *what)
         printf("case %lu, seed %llu: %s %s\n", cases, (unsigned long long)began, call, what);
 }
 
+static void print_answer(const char *who, uint32_t number, const uint32_t *evidence, int n)
+{
+    printf(", %s %u", who, number);
+    while (n--)
+        printf(" %u", *evidence++);
+}
+
 static void compare(int kind, answer a, plain_answer b)
 {
     cases++;
     met[kind][b.number & 63]++;
     watch(names[kind], a.number != 0);
-    if (!agrees(a, b) && wrong++ < 20)
-        printf("case %lu, seed %llu, %s: archive %u %u %u %u (past the last %u %u), plain C %u %u %u %u\n", cases, (unsigned long long)began, names[kind],
-               a.number, a.evidence[0], a.evidence[1], a.evidence[2], a.evidence[3], a.evidence[4], b.number, b.evidence[0], b.evidence[1], b.evidence[2]);
+    if (!agrees(a, b) && wrong++ < 20) {
+        printf("case %lu, seed %llu, %s", cases, (unsigned long long)began, names[kind]);
+        print_answer("archive", a.number, a.evidence, ASKED_FOR);
+        print_answer("plain C", b.number, b.evidence, PLAIN_EVIDENCE);
+        printf("\n");
+    }
+}
+
+/* Where the ticks of a job with a wrong count fell. */
+enum { NONE, ONE, TOO_FEW, TOO_MANY, FIRST_PAST, LAST_PAST, FALLS };
+static const char *falls[FALLS] = {"no tick", "one tick", "too few", "too many", "the first past H", "the last past H"};
+static unsigned long fell[FALLS], miscounts;
+
+/* After 22 tasks and plan are the parts of a file, from which C and H are read. */
+static void tally(plain_answer b, const uint8_t *tasks, size_t tasks_len, const uint8_t *plan, size_t plan_len)
+{
+    static uint8_t file[60008];
+    static plain_set s;
+    uint32_t ticks = b.evidence[2], asked;
+    if (b.number != 22)
+        return;
+    memcpy(file, tasks, tasks_len);
+    memcpy(file + tasks_len, plan, plan_len);
+    if (plain_read(file, tasks_len + plan_len, &s).number)
+        return;
+    asked = s.running[b.evidence[0]];
+    miscounts++;
+    fell[NONE] += ticks == 0;
+    fell[ONE] += ticks == 1;
+    fell[TOO_FEW] += ticks < asked;
+    fell[TOO_MANY] += ticks > asked;
+    fell[FIRST_PAST] += b.evidence[3] >= s.cycle;
+    fell[LAST_PAST] += b.evidence[4] >= s.cycle;
 }
 
 static void equal(const char *what, const void *a, const void *b, size_t n)
@@ -98,10 +135,12 @@ static void try_screen(const uint8_t *tasks, size_t tasks_len)
 static void try_judge(const uint8_t *tasks, size_t tasks_len, const uint8_t *plan, size_t plan_len)
 {
     const uint8_t *t, *p;
+    plain_answer b = plain_judge(tasks, tasks_len, plan, plan_len);
     lent_count = 0;
     t = lend(tasks, tasks_len, coin(), 0);
     p = lend(plan, plan_len, coin(), 0);
-    compare(JUDGE, call_judge(t, tasks_len, p, plan_len), plain_judge(tasks, tasks_len, plan, plan_len));
+    compare(JUDGE, call_judge(t, tasks_len, p, plan_len), b);
+    tally(b, tasks, tasks_len, plan, plan_len);
 }
 
 static void any_bytes(void *to, size_t n)
@@ -276,6 +315,15 @@ static void make_crowded(made *f)
     f->jobs = 256 * n + 1;
 }
 
+/* The place of a slot in use, or of any slot where there is none. */
+static uint32_t used_slot(const uint8_t *plan, uint32_t n)
+{
+    uint32_t at = below(n), k;
+    for (k = 0; k < n && !plan[at]; k++)
+        at = (at + 1) % n;
+    return at;
+}
+
 static void try_all(const made *f)
 {
     static uint8_t file[60008], tasks[60008], plan[48008];
@@ -284,7 +332,7 @@ static void try_all(const made *f)
     memcpy(tasks, f->bytes, tasks_len);
     memcpy(plan, f->bytes + f->tasks, plan_len);
     tasks[tasks_len] = plan[plan_len] = file[file_len] = (uint8_t)below(3); /* for a length that is one too long */
-    switch (below(8)) { /* half of all stay as they were made */
+    switch (below(10)) { /* half of all stay as they were made */
     case 0:
         tasks_len = damage(tasks, tasks_len);
         break;
@@ -298,6 +346,9 @@ static void try_all(const made *f)
         tasks_len = near(tasks_len);
         plan_len = near(plan_len);
         break;
+    case 4: /* a job loses a tick */
+        plan[used_slot(plan, (uint32_t)plan_len)] = 0;
+        break;
     }
     file_len = below(3) ? damage(file, file_len) : near(file_len);
     try_read(file, file_len);
@@ -308,7 +359,7 @@ static void try_all(const made *f)
     try_run(tasks, tasks_len, plan, plan_len, f);
 }
 
-/* How often each number was met, a line a call. */
+/* How often each number was met, a line a call, and of the judge's 22 how often each kind of job. */
 static void tell(void)
 {
     int k, n;
@@ -323,6 +374,10 @@ static void tell(void)
             printf("%s %d in %lu", n ? "," : "", possible[k][n], met[k][possible[k][n]]);
         printf("\n");
     }
+    printf("22, %lu calls:", miscounts);
+    for (k = 0; k < FALLS; k++)
+        printf("%s %s in %lu", k ? "," : "", falls[k], fell[k]);
+    printf("\n");
 }
 
 int main(int argc, char **argv)

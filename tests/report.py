@@ -44,6 +44,8 @@ shows where. The screen reports a set of tasks only with a true finding, and the
       ('theorems/specs/Demand2.antt', 'accepted-iff', 'the same for any bytes at all, of the right length or not'),
       ('theorems/specs/Demand2.antt', 'first-rule', 'otherwise it names the first broken rule, at the lowest place'),
       ('theorems/specs/Demand2.antt', 'one-verdict', 'no second verdict would be as right'),
+      ('theorems/specs/Demands.antt', 'judge-shows-ticks', 'where a job gets too few ticks or too many, it shows how many, and when the first and the last of them fall'),
+      ('theorems/specs/Demands.antt', 'start-shows-same', 'and a start answers and shows the same'),
       ('theorems/specs/ScreenTrue.antt', 'finding-true', 'what the screen finds is so'),
       ('theorems/specs/Accepted.antt', 'finding-is-final', 'after a finding no plan for these tasks is accepted'),
       ('theorems/specs/Demand2Bytes.antt', 'judged-zero', 'all this for the bytes that a controller hands to the judge'),
@@ -289,7 +291,7 @@ def outside_section(lines):
         problems.append('The log has no outside cases.')
     out = ['## Cases that were run', '']
     out += paragraph('Beside the proofs, the archive that goes into the controller was linked into C programs and run. "Plain C" is a second program, written from the',
-                     "customer's document 01 alone; it answers the same outside cases, so that it is a fair judge of the random ones.")
+                     "customer's document 01 and requests alone; it answers the same outside cases, so that it is a fair judge of the random ones.")
     out += table(['cases', '>run', '>differed'], rows)
     for x in told:
         out += [''] + paragraph(x)

@@ -3,7 +3,7 @@
 #include "../include/flute.h"
 #include <string.h>
 
-static uint32_t shown(plain_answer r, uint32_t which) { return which < 3 ? r.evidence[which] : 0; }
+static uint32_t shown(plain_answer r, uint32_t which) { return which < PLAIN_EVIDENCE ? r.evidence[which] : 0; }
 
 static plain_answer read_it(const uint8_t *file, size_t file_len)
 {

@@ -5,6 +5,7 @@
 #include <stdlib.h>
 #include <string.h>
 
+enum { MOST = 1 + PLAIN_EVIDENCE }; /* numbers of an answer: its number and its evidence */
 static char line[1 << 16];
 static int number_of_line;
 
@@ -52,22 +53,29 @@ static char *numbers(char *p, long *out, int most, int *n)
 static int same(answer r, const long *want, int n)
 {
     int k;
-    if (n < 1 || n > 4 || r.number != (uint32_t)want[0])
+    if (n < 1 || n > MOST || r.number != (uint32_t)want[0])
         return 0;
-    for (k = 0; k < 5; k++)
+    for (k = 0; k < ASKED_FOR; k++)
         if (r.evidence[k] != (k + 1 < n ? (uint32_t)want[k + 1] : 0))
             return 0;
     return 1;
 }
 
-static void show(answer r) { printf("line %d: answered %u %u %u %u\n", number_of_line, r.number, r.evidence[0], r.evidence[1], r.evidence[2]); }
+static void show(answer r)
+{
+    int k;
+    printf("line %d: answered %u", number_of_line, r.number);
+    for (k = 0; k < ASKED_FOR; k++)
+        printf(" %u", r.evidence[k]);
+    printf("\n");
+}
 
 /* What stands before the equals sign goes through the call, what stands behind it is the answer. */
 static int compare(answer r, char *p)
 {
-    long want[5];
+    long want[MOST];
     int n;
-    numbers(strchr(p, '=') + 1, want, 5, &n);
+    numbers(strchr(p, '=') + 1, want, MOST, &n);
     if (same(r, want, n))
         return 1;
     show(r);
@@ -100,11 +108,11 @@ static int run_adjusted(char *p)
     static bytes tasks;
     static long releases[2048], deadlines[2048];
     static int32_t got_releases[2048], got_deadlines[2048];
-    long want[5];
+    long want[MOST];
     int n, jobs, jobs2, k;
     answer r;
     p = strchr(hex(p, &tasks), '=');
-    p = numbers(p + 1, want, 5, &n);
+    p = numbers(p + 1, want, MOST, &n);
     p = numbers(p, releases, 2048, &jobs);
     numbers(p, deadlines, 2048, &jobs2);
     if (want[0]) { /* refused: any length will do but for 11, and nothing may be written */
@@ -137,7 +145,7 @@ static int run_adjusted(char *p)
 static int run_step(char *p)
 {
     static bytes tasks, plan, state, out, next, row;
-    long want[5];
+    long want[MOST];
     int n;
     uint64_t report;
     answer r;
@@ -145,7 +153,7 @@ static int run_step(char *p)
     report = strtoull(p, &p, 10);
     p = hex(hex(p, &state), &out);
     p = strchr(p, '=');
-    p = numbers(p + 1, want, 5, &n);
+    p = numbers(p + 1, want, MOST, &n);
     hex(hex(p, &next), &row);
     r = call_step(tasks.bytes, tasks.length, plan.bytes, plan.length, report, state.bytes, state.length, out.bytes, out.length);
     if (!same(r, want, n)) {
@@ -162,7 +170,7 @@ static int run_step(char *p)
 static int run_write(char *p)
 {
     static bytes tasks, plan, out, after;
-    long want[5];
+    long want[MOST];
     int n;
     answer r;
     memset(out.bytes, 0xEE, sizeof out.bytes);
@@ -170,7 +178,7 @@ static int run_write(char *p)
     p = hex(hex(p, &tasks), &plan);
     out.length = strtoul(p, &p, 10);
     p = strchr(p, '=');
-    p = numbers(p + 1, want, 5, &n);
+    p = numbers(p + 1, want, MOST, &n);
     hex(p, &after);
     r = call_write(tasks.bytes, tasks.length, plan.bytes, plan.length, out.bytes, out.length);
     if (!same(r, want, n)) {

@@ -4,7 +4,7 @@ use mathlib.Core.Bool.{Bool, true, false}
 use mathlib.Core.List.{List, [], _∷_, _++_}
 use Prim.Native.Nat.{ℕ, suc, _^_}
 use lib.ListN.{set, take, replicate}
-use Rattle.vocabulary.specs.Least.{least, all}
+use Rattle.vocabulary.specs.Least.{least, greatest, all}
 use Rattle.vocabulary.specs.First.{firstOf}
 use Rattle.vocabulary.specs.Count.{count}
 use Rattle.vocabulary.specs.Total.{total}
@@ -17,7 +17,7 @@ use Rattle.kinds.specs.Cycle.{cycle, jobsOf, jobsBefore, jobs, cycleFits}
 use Rattle.kinds.specs.Jobs.{release}
 use Rattle.kinds.specs.Links.{common, linkFrom, linkTo, repeats, linksOf, links, spansOf, linksIn}
 use Rattle.kinds.specs.Sound.{attributesFit, taskFits, pairKey, pairFits, patternKey, headingFits, patternFits, openingFits, sound}
-use Rattle.kinds.specs.Plans.{slot, shows, shown, awake, runs, ticks}
+use Rattle.kinds.specs.Plans.{slot, shows, shown, awake, runs, ticks, firstTick, lastTick}
 use Rattle.numbers.specs.Numbers.{numberAt, held, gotAt, andThen}
 use Rattle.heads.specs.Tables.{timesFrom, taskFrom, onTask, tasksFrom, twoAt, onTwo, pairsFrom, countFrom, headingAt, onHeading, onPairs, patternFrom, onPattern, patternsFrom}
 use Rattle.heads.specs.Heads.{openingOf, middleFrom, onOpening, onTasks, onMiddle, onPatterns, headFrom}
@@ -100,9 +100,10 @@ dispatcherCases =
     ∷ (ask.startingHead smallHead (1 ∷ 2 ∷ 3 ∷ 0 ∷ []) other, leaves (12 ∷ 2 ∷ []) other [])
     ∷ (ask.startingHead twoHead (1 ∷ 1 ∷ 2 ∷ 0 ∷ 1 ∷ 0 ∷ 0 ∷ 0 ∷ []) other, leaves (20 ∷ 0 ∷ 0 ∷ 1 ∷ []) other [])
     ∷ (ask.startingHead smallHead (1 ∷ 0 ∷ 1 ∷ 2 ∷ []) other, leaves (21 ∷ 3 ∷ 0 ∷ []) other [])
-    ∷ (ask.startingHead smallHead (0 ∷ 2 ∷ 1 ∷ 0 ∷ []) other, leaves (22 ∷ 0 ∷ 0 ∷ 0 ∷ []) other [])
+    ∷ (ask.startingHead smallHead (0 ∷ 2 ∷ 1 ∷ 0 ∷ []) other, leaves (22 ∷ 0 ∷ 0 ∷ 0 ∷ 0 ∷ 0 ∷ []) other [])
+    ∷ (ask.startingHead smallHead (1 ∷ 2 ∷ 1 ∷ 1 ∷ []) other, leaves (22 ∷ 0 ∷ 1 ∷ 2 ∷ 2 ∷ 3 ∷ []) other [])
     ∷ (ask.startingHead smallHead (2 ∷ 1 ∷ 1 ∷ 0 ∷ []) other, leaves (23 ∷ 0 ∷ 0 ∷ 0 ∷ []) other [])
-    ∷ (ask.starting smallSet (0 ∷ 2 ∷ 1 ∷ 0 ∷ []) (state 3 false 1 2), leaves (22 ∷ 0 ∷ 0 ∷ 0 ∷ []) (stateBytes 3 0 1 2) [])
+    ∷ (ask.starting smallSet (0 ∷ 2 ∷ 1 ∷ 0 ∷ []) (state 3 false 1 2), leaves (22 ∷ 0 ∷ 0 ∷ 0 ∷ 0 ∷ 0 ∷ []) (stateBytes 3 0 1 2) [])
     -- A step shows the tick's slot, marks who ran, and goes on by a tick.
     ∷ (ask.steppingHead smallHead smallSlots 0 fresh (9 ∷ []), leaves (0 ∷ []) (stateBytes 1 1 0 1) (1 ∷ []))
     -- A report of a task that ran is heard; the mark stays until the task's next release.
@@ -183,9 +184,9 @@ dispatcherCases =
 -- ==== The dispatcher's definitions answer each of them so.
 pub dispatcher-cases : Answered dispatcherCases
 unfolding dispatcherCases state fresh stateBytes other smallSet twoHead lateHead mostHead mostSlots longSet longSlots fullSet fullSlots small smallHead
-    smallSlots reply taskNumbers rawHeadings rawPairs lentSet silence reportAfter least all firstOf count total table has pack lcm lcmOf holds rises
+    smallSlots reply taskNumbers rawHeadings rawPairs lentSet silence reportAfter least greatest all firstOf count total table has pack lcm lcmOf holds rises
     pairsIn cycle jobsOf jobsBefore jobs cycleFits release common linkFrom linkTo repeats linksOf links spansOf linksIn attributesFit taskFits pairKey
-    pairFits patternKey headingFits patternFits openingFits sound slot shows shown awake runs ticks numberAt held gotAt andThen timesFrom taskFrom onTask tasksFrom
+    pairFits patternKey headingFits patternFits openingFits sound slot shows shown awake runs ticks firstTick lastTick numberAt held gotAt andThen timesFrom taskFrom onTask tasksFrom
     twoAt onTwo pairsFrom countFrom headingAt onHeading onPairs patternFrom onPattern patternsFrom openingOf middleFrom onOpening onTasks onMiddle onPatterns headFrom
     takeHead takenOf high twin mated clashes strays strayed miscounts miscounted against bars broken breaks brokenPair brokenPattern highAt twiceAt
     outsideAt wrongAt brokenAt planRules rules verdictOf releases heard doneAt doneOf asleep byteOf rowOf standsAt inRow ranOf afterOf stepOf onVerdict

@@ -3,7 +3,7 @@ use mathlib.Core.Path.{refl}
 use mathlib.Core.List.{List, [], _∷_, _++_}
 use Prim.Native.Nat.{ℕ, suc}
 use lib.ListN.{set, take, replicate}
-use Rattle.vocabulary.specs.Least.{least, all}
+use Rattle.vocabulary.specs.Least.{least, greatest, all}
 use Rattle.vocabulary.specs.First.{firstOf}
 use Rattle.vocabulary.specs.Count.{count}
 use Rattle.vocabulary.specs.Total.{total}
@@ -15,7 +15,7 @@ use Rattle.kinds.specs.Cycle.{cycle, jobsOf, jobsBefore, jobs, cycleFits}
 use Rattle.kinds.specs.Jobs.{release}
 use Rattle.kinds.specs.Links.{common, linkFrom, linkTo, repeats, linksOf, links, spansOf, linksIn}
 use Rattle.kinds.specs.Sound.{attributesFit, taskFits, pairKey, pairFits, patternKey, headingFits, patternFits, openingFits, sound}
-use Rattle.kinds.specs.Plans.{slot, shows, shown, awake, runs, ticks}
+use Rattle.kinds.specs.Plans.{slot, shows, shown, awake, runs, ticks, firstTick, lastTick}
 use Rattle.numbers.specs.Numbers.{numberAt, held, gotAt, andThen}
 use Rattle.heads.specs.Tables.{timesFrom, taskFrom, onTask, tasksFrom, twoAt, onTwo, pairsFrom, countFrom, headingAt, onHeading, onPairs, patternFrom, onPattern, patternsFrom}
 use Rattle.heads.specs.Heads.{openingOf, middleFrom, onOpening, onTasks, onMiddle, onPatterns, headFrom}
@@ -25,7 +25,7 @@ use Rattle.judge.specs.Rules.{twin, mated, clashes, strays, strayed, miscounts,
 use Rattle.judge.specs.Judgement.{highAt, twiceAt, outsideAt, wrongAt, brokenAt, planRules, rules, verdictOf}
 use Rattle.judge.specs.Heads.{judgedOf}
 use Rattle.cases.specs.Samples.{small, smallHead, smallSlots}
-use Rattle.cases.specs.Questions.{Row, Answered, says, at, reply, taskNumbers, rawHeadings, rawPairs, lentSet}
+use Rattle.cases.specs.Questions.{Row, Answered, says, at, gets, reply, taskNumbers, rawHeadings, rawPairs, lentSet}
 use Rattle.cases.specs.Questions as ask
 
 -- ---- sets
@@ -44,6 +44,14 @@ lateBy o = lentSet 1 2 ((2, 1, o, 2) ∷ []) [] []
 -- a task whose window lies over the end of the cycle: ticks 3 and 4, of which the second has slot tick 0
 overEnd : ℕ → Set
 overEnd m = lentSet 1 m ((4, 1, 3, 2) ∷ []) [] []
+
+-- the same, and it needs both
+bothOverEnd : Set
+bothOverEnd = lentSet 1 1 ((4, 2, 3, 2) ∷ []) [] []
+
+-- a task of two jobs, from tick 5 on, and one that makes the cycle 12 ticks long
+twiceLate : Set
+twiceLate = lentSet 1 1 ((6, 2, 5, 6) ∷ (12, 1, 0, 12) ∷ []) [] []
 
 -- 64 tasks on eight processors, and a plan for them: task 0 first and task 63 last
 most : Set
@@ -101,12 +109,25 @@ judgeCases =
     ∷ (ask.judging (overEnd 1) (1 ∷ 0 ∷ 0 ∷ 0 ∷ []), says (0 ∷ []))
     -- The job runs at true tick 4, where the slot tick is 0.
     ∷ (ask.runningAt (overEnd 1) (1 ∷ 0 ∷ 0 ∷ 0 ∷ []) 0 0, at (4 ∷ []))
-    -- 22: no tick, a tick too many; the lowest task, then the lowest job; before 23.
-    ∷ (ask.judging (onSome 1) (0 ∷ 2 ∷ 1 ∷ 0 ∷ []), says (22 ∷ 0 ∷ 0 ∷ 0 ∷ []))
-    ∷ (ask.judging (onSome 1) (1 ∷ 1 ∷ 2 ∷ 1 ∷ []), says (22 ∷ 0 ∷ 0 ∷ 2 ∷ []))
-    ∷ (ask.judging (onSome 1) (1 ∷ 0 ∷ 0 ∷ 0 ∷ []), says (22 ∷ 0 ∷ 1 ∷ 0 ∷ []))
-    ∷ (ask.judging (onSome 1) (1 ∷ 0 ∷ 1 ∷ 0 ∷ []), says (22 ∷ 1 ∷ 0 ∷ 0 ∷ []))
-    ∷ (ask.judging (onSome 1) (2 ∷ 1 ∷ 0 ∷ 0 ∷ []), says (22 ∷ 0 ∷ 1 ∷ 0 ∷ []))
+    -- 22: no tick, which shows the release twice, and a tick too many; the lowest task, then the lowest job; before 23.
+    ∷ (ask.judging (onSome 1) (0 ∷ 2 ∷ 1 ∷ 0 ∷ []), says (22 ∷ 0 ∷ 0 ∷ 0 ∷ 0 ∷ 0 ∷ []))
+    ∷ (ask.judging (onSome 1) (1 ∷ 1 ∷ 2 ∷ 1 ∷ []), says (22 ∷ 0 ∷ 0 ∷ 2 ∷ 0 ∷ 1 ∷ []))
+    ∷ (ask.judging (onSome 1) (1 ∷ 0 ∷ 0 ∷ 0 ∷ []), says (22 ∷ 0 ∷ 1 ∷ 0 ∷ 2 ∷ 2 ∷ []))
+    ∷ (ask.judging (onSome 1) (1 ∷ 0 ∷ 1 ∷ 0 ∷ []), says (22 ∷ 1 ∷ 0 ∷ 0 ∷ 0 ∷ 0 ∷ []))
+    ∷ (ask.judging (onSome 1) (2 ∷ 1 ∷ 0 ∷ 0 ∷ []), says (22 ∷ 0 ∷ 1 ∷ 0 ∷ 2 ∷ 2 ∷ []))
+    -- First and last are in true time: the second of two ticks, and the only one, are at tick 4, where the slot tick is 0. With no tick the release is shown.
+    ∷ (ask.judging (overEnd 1) (1 ∷ 0 ∷ 0 ∷ 1 ∷ []), says (22 ∷ 0 ∷ 0 ∷ 2 ∷ 3 ∷ 4 ∷ []))
+    ∷ (ask.judging bothOverEnd (1 ∷ 0 ∷ 0 ∷ 0 ∷ []), says (22 ∷ 0 ∷ 0 ∷ 1 ∷ 4 ∷ 4 ∷ []))
+    ∷ (ask.judging bothOverEnd (0 ∷ 0 ∷ 0 ∷ 1 ∷ []), says (22 ∷ 0 ∷ 0 ∷ 1 ∷ 3 ∷ 3 ∷ []))
+    ∷ (ask.judging (overEnd 1) (0 ∷ 0 ∷ 0 ∷ 0 ∷ []), says (22 ∷ 0 ∷ 0 ∷ 0 ∷ 3 ∷ 3 ∷ []))
+    -- The window of job 1 is the ticks 11 to 16 of a cycle of 12: slot tick 11 comes first, then 0 and 4. A release may lie near H.
+    ∷ (ask.judging twiceLate (1 ∷ 2 ∷ 0 ∷ 0 ∷ 1 ∷ 1 ∷ 1 ∷ 0 ∷ 0 ∷ 0 ∷ 0 ∷ 1 ∷ []), says (22 ∷ 0 ∷ 1 ∷ 3 ∷ 11 ∷ 16 ∷ []))
+    ∷ (ask.judging twiceLate (0 ∷ 2 ∷ 0 ∷ 0 ∷ 0 ∷ 1 ∷ 0 ∷ 0 ∷ 0 ∷ 0 ∷ 1 ∷ 0 ∷ []), says (22 ∷ 0 ∷ 1 ∷ 0 ∷ 11 ∷ 11 ∷ []))
+    -- What a job gets, in the first cycle and later: whole cycles later the same.
+    ∷ (ask.getting (overEnd 1) (1 ∷ 0 ∷ 0 ∷ 1 ∷ []) 0 0, gets 2 3 4)
+    ∷ (ask.getting (overEnd 1) (1 ∷ 0 ∷ 0 ∷ 1 ∷ []) 0 1, gets 2 7 8)
+    ∷ (ask.getting (overEnd 1) (1 ∷ 0 ∷ 0 ∷ 0 ∷ []) 0 3, gets 1 16 16)
+    ∷ (ask.getting (overEnd 1) (0 ∷ 0 ∷ 0 ∷ 0 ∷ []) 0 3, gets 0 15 15)
     -- 23: a plan that keeps all links; then the second job in the same tick as the first, which is not later. Pattern, pair and k are the lowest.
     ∷ (ask.judging linked linkedSlots, says (0 ∷ []))
     ∷ (ask.judging linked (set (set linkedSlots 14 0) 13 3), says (23 ∷ 1 ∷ 1 ∷ 1 ∷ []))
@@ -117,19 +138,19 @@ judgeCases =
     ∷ (ask.judging twoThenOne (1 ∷ 2 ∷ 1 ∷ 0 ∷ []), says (23 ∷ 0 ∷ 0 ∷ 0 ∷ []))
     -- Eight processors in one tick; with one of them idle its task gets none.
     ∷ (ask.judging (full 8) (1 ∷ 2 ∷ 3 ∷ 4 ∷ 5 ∷ 6 ∷ 7 ∷ 8 ∷ []), says (0 ∷ []))
-    ∷ (ask.judging (full 8) (1 ∷ 2 ∷ 3 ∷ 4 ∷ 5 ∷ 6 ∷ 7 ∷ 0 ∷ []), says (22 ∷ 7 ∷ 0 ∷ 0 ∷ []))
+    ∷ (ask.judging (full 8) (1 ∷ 2 ∷ 3 ∷ 4 ∷ 5 ∷ 6 ∷ 7 ∷ 0 ∷ []), says (22 ∷ 7 ∷ 0 ∷ 0 ∷ 0 ∷ 0 ∷ []))
     -- 64 tasks on eight processors; with the last slot idle task 63 gets no tick, and slot 65 is none.
     ∷ (ask.judging most mostSlots, says (0 ∷ []))
-    ∷ (ask.judging most (set mostSlots 63 0), says (22 ∷ 63 ∷ 0 ∷ 0 ∷ []))
+    ∷ (ask.judging most (set mostSlots 63 0), says (22 ∷ 63 ∷ 0 ∷ 0 ∷ 0 ∷ 0 ∷ []))
     ∷ (ask.judging most (set mostSlots 63 65), says (12 ∷ 63 ∷ []))
     ∷ []
 
 -- ==== The judge's definition answers each of them so.
 pub judge-cases : Answered judgeCases
-unfolding judgeCases onSome full lateBy overEnd most mostSlots linked linkedSlots twoThenOne small smallHead smallSlots reply taskNumbers rawHeadings
-    rawPairs lentSet least all firstOf count total table gather lcm lcmOf holds rises pairsIn cycle jobsOf jobsBefore jobs cycleFits release common
+unfolding judgeCases onSome full lateBy overEnd bothOverEnd twiceLate most mostSlots linked linkedSlots twoThenOne small smallHead smallSlots reply taskNumbers rawHeadings
+    rawPairs lentSet least greatest all firstOf count total table gather lcm lcmOf holds rises pairsIn cycle jobsOf jobsBefore jobs cycleFits release common
     linkFrom linkTo repeats linksOf links spansOf linksIn attributesFit taskFits pairKey pairFits patternKey headingFits patternFits openingFits sound
-    slot shows shown awake runs ticks numberAt held gotAt andThen timesFrom taskFrom onTask tasksFrom twoAt onTwo pairsFrom countFrom headingAt onHeading
+    slot shows shown awake runs ticks firstTick lastTick numberAt held gotAt andThen timesFrom taskFrom onTask tasksFrom twoAt onTwo pairsFrom countFrom headingAt onHeading
     onPairs patternFrom onPattern patternsFrom openingOf middleFrom onOpening onTasks onMiddle onPatterns headFrom takeHead takenOf high twin mated clashes strays strayed
     miscounts miscounted against bars broken breaks brokenPair brokenPattern highAt twiceAt outsideAt wrongAt brokenAt planRules rules verdictOf
     judgedOf

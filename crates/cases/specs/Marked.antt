@@ -4,7 +4,7 @@ use mathlib.Core.List.{List, [], _∷_}
 use Prim.Native.Nat.{ℕ}
 use lib.IntN.{ℤ, pos, subℕ}
 use lib.ListN.{set, drop}
-use Rattle.vocabulary.specs.Least.{least, all}
+use Rattle.vocabulary.specs.Least.{least, greatest, all}
 use Rattle.vocabulary.specs.First.{firstOf}
 use Rattle.vocabulary.specs.Count.{count}
 use Rattle.vocabulary.specs.Total.{total}
@@ -20,7 +20,7 @@ use Rattle.kinds.specs.Cycle.{cycle, jobsOf, jobsBefore, jobs, cycleFits}
 use Rattle.kinds.specs.Jobs.{release, due, inWindow, numberOfJob, taskOfJob, jobOfJob}
 use Rattle.kinds.specs.Links.{common, linkFrom, linkTo, repeats, linksOf, links, inner, spansOf, linksIn}
 use Rattle.kinds.specs.Sound.{attributesFit, taskFits, pairKey, pairFits, patternKey, headingFits, patternFits, openingFits, sound}
-use Rattle.kinds.specs.Plans.{slot, shows, shown, awake, runs, ticks}
+use Rattle.kinds.specs.Plans.{slot, shows, shown, awake, runs, ticks, firstTick, lastTick}
 use Rattle.numbers.specs.Numbers.{numberAt, held, gotAt, andThen}
 use Rattle.heads.specs.Tables.{timesFrom, taskFrom, onTask, tasksFrom, twoAt, onTwo, pairsFrom, countFrom, headingAt, onHeading, onPairs, patternFrom, onPattern, patternsFrom}
 use Rattle.heads.specs.Heads.{openingOf, middleFrom, onOpening, onTasks, onMiddle, onPatterns, headFrom}
@@ -34,7 +34,7 @@ use Rattle.network.specs.Causes.{onCycle, load, room, tight}
 use Rattle.screen.specs.Findings.{screenRules, findingOf}
 use Rattle.dispatcher.specs.Steps.{releases, heard, doneAt, doneOf, asleep, byteOf, rowOf, standsAt, inRow, ranOf, afterOf, stepOf}
 use Rattle.dispatcher.specs.Runs.{stateAt, shownAt}
-use Rattle.cases.specs.Questions.{Row, Answered, is, refusedBy, says, times, rows, at, reply, numberReply}
+use Rattle.cases.specs.Questions.{Row, Answered, is, refusedBy, says, times, rows, at, gets, reply, numberReply}
 use Rattle.cases.specs.Questions.{taskNumbers, headingNumbers, pairNumbers, setOf, silence, reportAfter}
 use Rattle.cases.specs.Questions as ask
 
@@ -102,10 +102,10 @@ cases =
     -- D: 23 with 0, 0, 0. Job 0 of task 0 runs at 4 and 5.
     ∷ (ask.judging setD slotsD, says (23 ∷ 0 ∷ 0 ∷ 0 ∷ []))
     ∷ (ask.runningAt setD slotsD 0 0, at (4 ∷ 5 ∷ []))
-    ∷ (ask.getting setD slotsD 0 0, is 2)
-    -- E: 22, task 0 job 2, 4 ticks. F: 22, task 0 job 1, 2 ticks.
-    ∷ (ask.judging setA (set slotsA 23 1), says (22 ∷ 0 ∷ 2 ∷ 4 ∷ []))
-    ∷ (ask.judging setA (set slotsA 10 0), says (22 ∷ 0 ∷ 1 ∷ 2 ∷ []))
+    ∷ (ask.getting setD slotsD 0 0, gets 2 4 5)
+    -- E: 22, task 0 job 2, 4 ticks, from 20 to 23. F: 22, task 0 job 1, 2 ticks, from 11 to 12.
+    ∷ (ask.judging setA (set slotsA 23 1), says (22 ∷ 0 ∷ 2 ∷ 4 ∷ 20 ∷ 23 ∷ []))
+    ∷ (ask.judging setA (set slotsA 10 0), says (22 ∷ 0 ∷ 1 ∷ 2 ∷ 11 ∷ 12 ∷ []))
     -- G: 20 at tick 0, processors 0 and 1.
     ∷ (ask.judging setG (1 ∷ 1 ∷ 0 ∷ 0 ∷ []), says (20 ∷ 0 ∷ 0 ∷ 1 ∷ []))
     -- H: 21 at tick 2, processor 0; then accepted.
@@ -135,10 +135,10 @@ cases =
 -- ==== The definitions answer every marked case as it is printed.
 marked-cases : Answered cases
 unfolding cases fileA setA slotsA setC slotsC setD slotsD setG setH setI setJ setK minus reply numberReply taskNumbers headingNumbers pairNumbers setOf
-    silence reportAfter least all count total table join gather has pack lcm lcmOf reach loops longest.most longest.entry longest.rounds soonest.fewest
+    silence reportAfter least greatest all count total table join gather has pack lcm lcmOf reach loops longest.most longest.entry longest.rounds soonest.fewest
     soonest.due soonest.soonest holds rises pairsIn cycle jobsOf jobsBefore jobs cycleFits release due inWindow numberOfJob taskOfJob jobOfJob common
     linkFrom linkTo repeats linksOf links inner spansOf linksIn attributesFit taskFits pairKey pairFits patternKey headingFits patternFits openingFits
-    sound slot shows shown awake runs ticks numberAt held gotAt andThen timesFrom taskFrom onTask tasksFrom twoAt onTwo pairsFrom countFrom headingAt onHeading
+    sound slot shows shown awake runs ticks firstTick lastTick numberAt held gotAt andThen timesFrom taskFrom onTask tasksFrom twoAt onTwo pairsFrom countFrom headingAt onHeading
     onPairs patternFrom onPattern patternsFrom openingOf middleFrom onOpening onTasks onMiddle onPatterns headFrom slotsFrom onSlots onHead readOf high twin mated clashes
     strays strayed miscounts miscounted against bars broken breaks brokenPair brokenPattern highAt twiceAt outsideAt wrongAt brokenAt firstOf planRules
     rules verdictOf pairLinks patternLinks cycleLinks linkStarts linkEnds network ownRelease ownDue ownRunning releaseWeight adjustedRelease

@@ -11,7 +11,7 @@ use Rattle.kinds.specs.Tasks.{Tasks, Set, tasksOf, patternsOf, deadline}
 use Rattle.kinds.specs.Cycle.{jobs}
 use Rattle.kinds.specs.Jobs.{release}
 use Rattle.kinds.specs.Links.{links}
-use Rattle.kinds.specs.Plans.{planOf, runsPast, ticks}
+use Rattle.kinds.specs.Plans.{planOf, runsPast, ticks, firstTick, lastTick}
 use Rattle.reader.specs.Files.{readOf}
 use Rattle.numbers.specs.Answers.{numeralNumber, numeralEvidence}
 use Rattle.numbers.specs.declared.Number.{Number}
@@ -51,7 +51,7 @@ pub data Question : Type 0 where
   deadlines : Set → Question
   -- what is shown from tick a on, for n ticks, where step k is handed report k
   playing : Set → List ℕ → (ℕ → ℕ) → ℕ → ℕ → Question
-  -- at which ticks of its window does job k of task i run, and how many are they
+  -- at which ticks of its window does job k of task i run; how many are they, which is the first, and which the last
   runningAt : Set → List ℕ → ℕ → ℕ → Question
   getting : Set → List ℕ → ℕ → ℕ → Question
   -- how many links does a set make in a cycle
@@ -79,6 +79,7 @@ pub data Reply : Type 0 where
   times : List ℤ → Reply
   rows : List (List ℕ) → Reply
   at : List ℕ → Reply
+  gets : ℕ → ℕ → ℕ → Reply
   -- number and evidence, and what two buffers hold
   adjusts : List ℕ → List ℤ → List ℤ → Reply
   -- number and evidence, and what a buffer holds
@@ -119,7 +120,9 @@ reply (playing s slots reports a n) = rows (table (λ k. shownAt (playOf s slots
 reply (runningAt s slots i k) =
     let u : Tasks = s .tasks in
     at (gather (λ x. release u i k + x) (runsPast u (planOf s slots) i k) (deadline u i))
-reply (getting s slots i k) = is (ticks (s .tasks) (planOf s slots) i k)
+reply (getting s slots i k) =
+    let u : Tasks = s .tasks in
+    gets (ticks u (planOf s slots) i k) (firstTick u (planOf s slots) i k) (lastTick u (planOf s slots) i k)
 reply (linking s) = is (links (s .tasks) (s .patterns))
 reply (adjusting s r d) = adjusts (adjustedSaid (adjustedOf s (length r) (length d))) (releasesLeft s r d) (deadlinesLeft s r d)
 reply (writing s slots out) = let x = writeFor s slots out in writes (writtenSaid (x .answer)) (x .out)

@@ -23,7 +23,7 @@ not-accepted verdict.WrongLength a b e = refl
 not-accepted (verdict.BadSlot x) a b e = refl
 not-accepted (verdict.Twice x y z) a b e = refl
 not-accepted (verdict.Outside x y) a b e = refl
-not-accepted (verdict.WrongCount x y z) a b e = refl
+not-accepted (verdict.WrongCount x y z v w) a b e = refl
 not-accepted (verdict.BrokenLink x y z) a b e = refl
 
 pub not-shown : (a : Answer) → OneOf (1 ∷ 2 ∷ 3 ∷ 4 ∷ 5 ∷ []) (tagOf own.the-type a) → isShown a ≡ false

@@ -31,7 +31,7 @@ onVerdict verdict.WrongLength a b = b
 onVerdict (verdict.BadSlot e) a b = b
 onVerdict (verdict.Twice t q r) a b = b
 onVerdict (verdict.Outside t q) a b = b
-onVerdict (verdict.WrongCount i k c) a b = b
+onVerdict (verdict.WrongCount i k c x y) a b = b
 onVerdict (verdict.BrokenLink k q n) a b = b
 
 unfoldable pub startedOf : Set → List ℕ → State → Started

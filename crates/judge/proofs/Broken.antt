@@ -14,7 +14,8 @@ use Rattle.kinds.specs.Plans.{Plan, runs}
 use Rattle.kinds.specs.Valid.{TickOf, LinkKept}
 use Rattle.laws.specs.Window.{tick-is}
 use Rattle.judge.specs.Rules.{against, bars, broken}
-use Rattle.judge.specs.JobTicks.{Gets, to-tick}
+use Rattle.kinds.specs.JobTicks.{Gets}
+use Rattle.laws.specs.JobTicks.{to-tick}
 
 of-tick : (u : Tasks) (p : Plan) (i k x : ℕ) → TickOf u p i k x → release u i k + (x - release u i k) ≡ x
 of-tick u p i k x t = omega (arith, tick-is u p i k x t .0)

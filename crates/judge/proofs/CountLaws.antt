@@ -14,7 +14,8 @@ use Rattle.judge.specs.declared.Lane.{Lane}
 use Rattle.judge.specs.declared.Verdict.the-variants as verdict
 use Rattle.judge.specs.Rules.{miscounts, miscounted}
 use Rattle.judge.specs.Judgement.{wrongAt, planRules, verdictFrom}
-use Rattle.judge.specs.JobTicks.{Gets}
+use Rattle.kinds.specs.JobTicks.{Gets}
+use Rattle.laws.specs.JobTicks.{gets-ticks}
 use Rattle.judge.proofs.EachJobGets.{jobs-are}
 use Rattle.judge.specs.TableNeeds.{laneOf, laneIn, Tells, Counted}
 use Rattle.judge.proofs.LaneLaws.{lane-parts, lane-tells}
@@ -59,11 +60,12 @@ module _ {n h : ℕ} {xs bs : List ℕ} {v : Patterns} {rows : List (List ℕ)} 
       task-no lk = some-ge (miscounts (tasksOf n xs) (w .plan) i) (jobsOf (tasksOf n xs) i) k ek (omega (arith, lane-parts (tasksOf n xs) i lane-is .1))
 
       pub wrong-found : {c a b : ℕ} → Seeking (miscounted (tasksOf n xs) (w .plan)) n i → k < x .jobs → Gets (tasksOf n xs) (w .plan) i k c a b
-          → verdict.WrongCount i k c ≡ verdictFrom 22 (tasksOf n xs) v (w .plan)
+          → verdict.WrongCount i k c a b ≡ verdictFrom 22 (tasksOf n xs) v (w .plan)
       unfolding verdictFrom planRules from firstOf wrongAt
       wrong-found s lk g =
           let e : i ≡ least (miscounted (tasksOf n xs) (w .plan)) n = hit _ _ i s (task-yes lk) in
-          rw (some-lt (miscounted (tasksOf n xs) (w .plan)) n i e l, ← e, ← ek, ← g .number)
+          let q = gets-ticks (tasksOf n xs) (w .plan) i k g in
+          rw (some-lt (miscounted (tasksOf n xs) (w .plan)) n i e l, ← e, ← ek, ← q .0, ← q .1, ← q .2)
 
 -- Where no task is miscounted every job gets its running time.
 pub all-counted : (u : Tasks) (p : Plan) → some (miscounted u p) (u .count) ≡ false → (i k : ℕ) → i < u .count → k < jobsOf u i

@@ -25,7 +25,7 @@ use Rattle.laws.specs.Order.{task-of-number, number-low}
 use Rattle.laws.specs.Window.{tick-at, tick-is, falls, falls-is, is-falling, window-count}
 use Rattle.laws.specs.Window.{timeOf, time-awake, time-asleep, time-from, shown-time, time-mod, turned}
 use Rattle.judge.specs.Rules.{twin, mated, clashes, strays}
-use Rattle.judge.specs.JobTicks.{EachJobGets}
+use Rattle.judge.specs.JobTable.{EachJobGets}
 use Rattle.judge.specs.JobOfSlot.{Fit, jobKey, keyOf, key, time, outside, Fine, Walked}
 
 module _ (u : Tasks) (p : Plan) (f : Fit u p) where

@@ -1,20 +1,22 @@
 -- What the table of one cycle tells of any job of a task, also of one past the cycle.
-use mathlib.Core.Path.{_≡_, ap, _∙_, subst}
+use mathlib.Core.Path.{_≡_, sym, ap, _∙_, subst}
+use mathlib.Core.Bool.{true}
 use mathlib.Core.List.{List}
-use mathlib.Core.Logic.{_⊎_, inl, inr}
 use Prim.Native.Nat.{ℕ, _+_, _-_, _*_, _/_, _%_, _<_, _≤_, _∣_}
-use native.Mathlib.Nat.{div-add-mod', div-mul-cancel, eq-zero-or-pos, le-div-iff-mul-le, le-of-dvd, mul-le-mul}
+use native.Mathlib.Nat.{div-add-mod', div-mul-cancel, le-div-iff-mul-le, le-of-dvd, mul-le-mul}
 use native.Mathlib.Omega.{arith}
 use lib.ListN.{getD, length}
 use Rattle.vocabulary.specs.Tally.{countAt, firstAt, lastAt}
 use Rattle.kinds.specs.declared.Task.{Task}
 use Rattle.kinds.specs.Tasks.{Tasks, taskAt, taskIn, task-in, period, offset}
 use Rattle.kinds.specs.Cycle.{jobsOf, jobsBefore, jobs}
-use Rattle.kinds.specs.Jobs.{release, numberOfJob}
+use Rattle.kinds.specs.Jobs.{release, inWindow, numberOfJob}
 use Rattle.kinds.specs.Plans.{Plan}
-use Rattle.laws.specs.Window.{tick-is}
+use Rattle.laws.specs.Windows.{window-facts}
 use Rattle.judge.specs.declared.Lane.{Lane}
-use Rattle.judge.specs.JobTicks.{Gets, RowGets, row-some, row-none, gets-again}
+use Rattle.kinds.specs.JobTicks.{Gets}
+use Rattle.laws.specs.JobTicks.{gets-none, gets-within, gets-again}
+use Rattle.judge.specs.JobTable.{RowGets}
 use Rattle.judge.specs.JobOfSlot.{Fit}
 use Rattle.judge.proofs.EachJobGets.{jobs-are, number-fits}
 use Rattle.judge.specs.TableNeeds.{laneOf, laneIn, Tallied, Tells}
@@ -83,9 +85,9 @@ module _ {rows : List (List ℕ)} {l : Lane} (t : Tells rows l) where
   pub ask-before : (k : ℕ) → k % l .jobs ≤ k
   ask-before k = omega (arith, div-add-mod' k (l .jobs))
 
-  pub ask-far : {k : ℕ} → k ≤ 600000 → (k - k % l .jobs) * l .task .period ≤ 3600000000
+  pub ask-far : {k : ℕ} → k < 4294967296 → (k - k % l .jobs) * l .task .period ≤ 4294967295 * 6000
   ask-far {k} lk =
-      mul-le-mul {n₁ = k - k % l .jobs} {m₁ = l .task .period} {n₂ = 600000} {m₂ = 6000} (omega arith) (omega (arith, period-is, f .low-period (t .task) (t .low)))
+      mul-le-mul {n₁ = k - k % l .jobs} {m₁ = l .task .period} {n₂ = 4294967295} {m₂ = 6000} (omega arith) (omega (arith, period-is, f .low-period (t .task) (t .low)))
 
   -- ---- a job of the cycle
   module _ {k x : ℕ} (lk : k < l .jobs) (ex : x ≡ l .base + k) where
@@ -94,30 +96,26 @@ module _ {rows : List (List ℕ)} {l : Lane} (t : Tells rows l) where
     row-is = rw (ex, t .base) (t .tallied .gets .each (t .task) k (t .low) (omega (arith, t .jobs)))
 
     pub lane-some : (countAt rows x ≡ 0 → ⊥) → Gets (t .tasks) (t .plan) (t .task) k (countAt rows x) (firstAt rows x) (lastAt rows x)
-    lane-some z = row-some (t .tasks) (t .plan) (t .task) k rows x row-is z
+    lane-some z =
+        let r = row-is in
+        record { number = r .number; bounds = r .bounds; first = r .first; last = r .last; none = λ e. absurd (z e) }
 
     pub lane-none : countAt rows x ≡ 0
         → Gets (t .tasks) (t .plan) (t .task) k 0 (l .task .offset + k * l .task .period) (l .task .offset + k * l .task .period)
     unfolding release
-    lane-none z = rw (offset-is, period-is) (rw z at (row-none (t .tasks) (t .plan) (t .task) k rows x row-is z))
+    lane-none z = rw (offset-is, period-is) (gets-none (t .tasks) (t .plan) (t .task) k (sym (row-is .number) ∙ z))
 
   -- ---- its times are low
   pub ask-times : {k c a b : ℕ} → k < l .jobs → Gets (t .tasks) (t .plan) (t .task) k c a b → (a ≤ 12000) × (b ≤ 12000)
   unfolding release
-  ask-times {k} {c} {a} {b} lk g = go (eq-zero-or-pos c)
+  ask-times {k} {c} {a} {b} lk g =
+      let w = gets-within (t .tasks) (t .plan) (t .task) k (f .some-deadline (t .task) (t .low)) g in
+      (low a (w .0), low b (w .1))
     where
-      o : offset (t .tasks) (t .task) < period (t .tasks) (t .task)
-      o = f .offset-low (t .task) (t .low)
-
-      d : k * period (t .tasks) (t .task) + period (t .tasks) (t .task) ≤ 6000
-      d = rw period-is at (room lk)
-
-      go : (c ≡ 0) ⊎ (0 < c) → (a ≤ 12000) × (b ≤ 12000)
-      go (inl z) = let w = g .none z in (omega (arith, w .0, d, o), omega (arith, w .1, d, o))
-      go (inr h) =
-          let w = tick-is (t .tasks) (t .plan) (t .task) k a (g .first h) .1 in
-          let v = tick-is (t .tasks) (t .plan) (t .task) k b (g .last h) .1 in
-          (omega (arith, w, d, o, f .deadline-low (t .task) (t .low)), omega (arith, v, d, o, f .deadline-low (t .task) (t .low)))
+      low : (x : ℕ) → inWindow (t .tasks) (t .task) k x ≡ true → x ≤ 12000
+      low x e =
+          let d : k * period (t .tasks) (t .task) + period (t .tasks) (t .task) ≤ 6000 = rw period-is at (room lk) in
+          omega (arith, window-facts (t .tasks) (t .task) k x e .1, d, f .offset-low (t .task) (t .low), f .deadline-low (t .task) (t .low))
 
   -- ---- any job, from the one that it repeats
   put-off : (k : ℕ) → (k - k % l .jobs) * l .task .period ≡ k / jobsOf (t .tasks) (t .task) * t .plan .cycle

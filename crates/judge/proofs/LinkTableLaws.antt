@@ -28,7 +28,7 @@ use Rattle.judge.specs.declared.LinkSteps.{LinkSteps}
 use Rattle.judge.specs.declared.Verdict.the-variants as verdict
 use Rattle.judge.specs.Rules.{breaks, brokenPair, brokenPattern}
 use Rattle.judge.specs.Judgement.{brokenAt, planRules, verdictFrom}
-use Rattle.judge.specs.JobTicks.{Gets}
+use Rattle.kinds.specs.JobTicks.{Gets}
 use Rattle.judge.proofs.Broken.{broken-is}
 use Rattle.judge.specs.TableNeeds.{PlanNeeds, laneOf, laneIn, Tells, stepsOf, StepsNeeds, stride, PairOf, PatternOf, LinkNeeds}
 use Rattle.judge.proofs.LaneLaws.{lane-parts, lane-tells, ask-here}

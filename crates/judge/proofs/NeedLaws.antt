@@ -17,6 +17,7 @@ fit-needs u v p a low =
       some-period = f .some-period;
       low-period = f .low-period;
       offset-low = f .offset-low;
+      some-deadline = λ i l. omega (arith, f .some-running i l, f .running-low i l);
       deadline-low = f .deadline-low;
       divides = λ i l. rw (a .ticks) (f .divides i l);
       ticks = a .ticks;

@@ -12,10 +12,11 @@ numberOf verdict.WrongLength = 11
 numberOf (verdict.BadSlot e) = 12
 numberOf (verdict.Twice t q r) = 20
 numberOf (verdict.Outside t q) = 21
-numberOf (verdict.WrongCount i k c) = 22
+numberOf (verdict.WrongCount i k c a b) = 22
 numberOf (verdict.BrokenLink k q n) = 23
 
--- Rule R7.1: 12 shows a place, 20 tick and two processors, 21 tick and processor, 22 a job and its ticks, 23 pattern, pair and k, the others nothing.
+-- Rule R7.1: 12 shows a place, 20 tick and two processors, 21 tick and processor, 22 a job, how many ticks it gets, and the first and the last of them, 23
+-- pattern, pair and k, the others nothing.
 abbrev pub evidenceOf : Verdict → List ℕ
 evidenceOf verdict.Accepted = []
 evidenceOf verdict.BadSet = []
@@ -23,5 +24,5 @@ evidenceOf verdict.WrongLength = []
 evidenceOf (verdict.BadSlot e) = e ∷ []
 evidenceOf (verdict.Twice t q r) = t ∷ q ∷ r ∷ []
 evidenceOf (verdict.Outside t q) = t ∷ q ∷ []
-evidenceOf (verdict.WrongCount i k c) = i ∷ k ∷ c ∷ []
+evidenceOf (verdict.WrongCount i k c a b) = i ∷ k ∷ c ∷ a ∷ b ∷ []
 evidenceOf (verdict.BrokenLink k q n) = k ∷ q ∷ n ∷ []

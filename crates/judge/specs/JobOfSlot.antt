@@ -24,6 +24,7 @@ pub record Fit (u : Tasks) (p : Plan) : Type 0 where
   pub some-period : (i : ℕ) → i < u .count → 0 < period u i
   pub low-period : (i : ℕ) → i < u .count → period u i ≤ 6000
   pub offset-low : (i : ℕ) → i < u .count → offset u i < period u i
+  pub some-deadline : (i : ℕ) → i < u .count → 0 < deadline u i
   pub deadline-low : (i : ℕ) → i < u .count → deadline u i ≤ period u i
   pub divides : (i : ℕ) → i < u .count → period u i ∣ p .cycle
   pub ticks : p .cycle ≡ cycle u

@@ -9,7 +9,7 @@ use Rattle.vocabulary.specs.First.{Rule, rule, firstOf, from}
 use Rattle.kinds.specs.Tasks.{Tasks, Patterns, Set, pairCount}
 use Rattle.kinds.specs.Cycle.{cycle, jobsOf}
 use Rattle.kinds.specs.Links.{repeats}
-use Rattle.kinds.specs.Plans.{Plan, planOf, ticks}
+use Rattle.kinds.specs.Plans.{Plan, planOf, ticks, firstTick, lastTick}
 use Rattle.kinds.specs.Sound.{sound}
 use Rattle.slots.specs.High.{high}
 use Rattle.judge.specs.declared.Verdict.{Verdict}
@@ -33,7 +33,7 @@ unfoldable pub wrongAt : Tasks → Plan → Verdict
 wrongAt u p =
     let i : ℕ = least (miscounted u p) (u .count) in
     let k : ℕ = least (miscounts u p i) (jobsOf u i) in
-    verdict.WrongCount i k (ticks u p i k)
+    verdict.WrongCount i k (ticks u p i k) (firstTick u p i k) (lastTick u p i k)
 
 unfoldable pub brokenAt : Tasks → Patterns → Plan → Verdict
 brokenAt u v p =

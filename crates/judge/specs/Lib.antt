@@ -2,7 +2,7 @@ pub mod Answers
 pub mod Rules
 pub mod Judgement
 pub mod Heads
-pub mod JobTicks
+pub mod JobTable
 pub mod JobOfSlot
 pub mod RowMarks
 pub mod Sweep

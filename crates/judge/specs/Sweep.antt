@@ -9,7 +9,7 @@ use Rattle.vocabulary.specs.Least.{some, Seeking}
 use Rattle.kinds.specs.Tasks.{Tasks}
 use Rattle.kinds.specs.Plans.{Plan}
 use Rattle.judge.specs.Rules.{clashes, strayed}
-use Rattle.judge.specs.JobTicks.{EachJobGets}
+use Rattle.judge.specs.JobTable.{EachJobGets}
 use Rattle.judge.specs.JobOfSlot.{outside}
 
 -- Rules 20 and 21 are kept, and the table tells.

@@ -11,7 +11,7 @@ use Rattle.kinds.specs.Links.{common, repeats}
 use Rattle.judge.specs.declared.Lane.{Lane}
 use Rattle.judge.specs.declared.LinkSteps.{LinkSteps}
 use Rattle.judge.specs.JobOfSlot.{FirstJobs, Fit}
-use Rattle.judge.specs.JobTicks.{EachJobGets}
+use Rattle.judge.specs.JobTable.{EachJobGets}
 
 -- ---- the set and the plan
 -- The rules from 12 on ask a sound set, its cycle, and a plan of the right length. The edition is not looked at, so any will do under which the set

@@ -32,7 +32,7 @@ fn wrong_job(rows: &[[u32; 3]], l: Lane) -> u32
     k
 }
 
-// Rules 22 and 23: the lowest job that gets not its running time, and the ticks that it gets; where there is none, the links are judged.
+// Rules 22 and 23: the lowest job that gets not its running time, and what it gets; where there is none, the links are judged.
 pub(crate) fn judge_counts(
     f: Counts,
     attributes: &Attributes,
@@ -52,7 +52,7 @@ pub(crate) fn judge_counts(
         let k = wrong_job(rows, l);
         if k < l.jobs {
             let g = got(rows, l, k);
-            return Verdict::WrongCount(i as u32, k, g.count);
+            return Verdict::WrongCount(i as u32, k, g.count, g.first as u32, g.last as u32);
         }
         i += 1;
     }

@@ -42,8 +42,8 @@ pub enum Verdict {
     Twice(u32, u32, u32),
     // Tick and processor.
     Outside(u32, u32),
-    // Task, job, and the ticks that it gets.
-    WrongCount(u32, u32, u32),
+    // Task, job, how many ticks it gets, and the first and the last of them in true time; without ticks, its release for both.
+    WrongCount(u32, u32, u32, u32, u32),
     // Pattern, pair, k.
     BrokenLink(u32, u32, u32),
 }
@@ -58,8 +58,8 @@ struct Lane {
 // What a job gets: how many ticks in its window, the first and the last of them in true time; without ticks, its release for both.
 struct JobTicks {
     count: u32,
-    first: u32,
-    last: u32,
+    first: u64,
+    last: u64,
 }
 
 // How a pattern's links step through the jobs: its two tasks' jobs, how many jobs of each lie from a link to the next, and how many links a pair makes in
@@ -188,7 +188,7 @@ pub fn number_of(v: Verdict) -> u32
         Verdict::BadSlot(_) => 12,
         Verdict::Twice(_, _, _) => 20,
         Verdict::Outside(_, _) => 21,
-        Verdict::WrongCount(_, _, _) => 22,
+        Verdict::WrongCount(_, _, _, _, _) => 22,
         Verdict::BrokenLink(_, _, _) => 23,
     }
 }
@@ -204,11 +204,13 @@ pub fn evidence_of(v: Verdict, which: u32) -> usize
         Verdict::BadSlot(e) => evidence::one_of(which, e),
         Verdict::Twice(t, q, r) => evidence::three_of(which, t as usize, q as usize, r as usize),
         Verdict::Outside(t, q) => evidence::two_of(which, t as usize, q as usize),
-        Verdict::WrongCount(i, k, c) => evidence::three_of(
+        Verdict::WrongCount(i, k, c, a, b) => evidence::five_of(
             which,
             i as usize,
             k as usize,
             c as usize,
+            a as usize,
+            b as usize,
         ),
         Verdict::BrokenLink(k, q, n) => evidence::three_of(
             which,

@@ -6,6 +6,7 @@ pub mod Links
 pub mod Sound
 pub mod Plans
 pub mod Valid
+pub mod JobTicks
 pub mod Build
 pub mod RangeLaws
 pub mod SoundByTests

@@ -50,7 +50,7 @@ ticks u p i k = count (runs u p i) (release u i k) (deadline u i)
 abbrev pub runsPast : Tasks → Plan → ℕ → ℕ → ℕ → Bool
 runsPast u p i k x = runs u p i (release u i k + x)
 
--- the first and the last of the job's ticks, in true time; where it gets none, its release
+-- Rule R3.8: the least and the greatest of the job's ticks, in true time; where it gets none, its release. `JobTicks.Gets` says the same by its meaning
 unfoldable pub firstTick : Tasks → Plan → ℕ → ℕ → ℕ
 firstTick u p i k = release u i k + pick (some (runsPast u p i k) (deadline u i)) (least (runsPast u p i k) (deadline u i)) 0
 

@@ -4,3 +4,4 @@ pub mod Back
 pub mod Windows
 pub mod Links
 pub mod Window
+pub mod JobTicks

@@ -56,6 +56,11 @@ unfolding release
 release-awake u i k d = omega arith
 
 -- ---- jobs
+-- n cycles after a job the same comes again
+pub release-later : (u : Tasks) (i k n : ℕ) → period u i ∣ cycle u → release u i (k + n * jobsOf u i) ≡ release u i k + n * cycle u
+unfolding release jobsOf
+release-later u i k n d = omega (arith, ap (λ (x : ℕ). n * x) (div-mul-cancel (period u i) d))
+
 -- job k's release, from that of the job of the first cycle that it repeats
 pub release-again : (u : Tasks) (i k : ℕ) → period u i ∣ cycle u → release u i k ≡ release u i (k % jobsOf u i) + k / jobsOf u i * cycle u
 unfolding release jobsOf
@@ -72,13 +77,15 @@ runs-shift u p i k l c d e =
     ∙ shown-again p i (release u i l + d) c
     ∙ sym (runs-awake u p i (release u i l + d) (release-awake u i l d))
 
+-- what is released a whole number of cycles later gets as much
+pub ticks-shift : (u : Tasks) (p : Plan) (i k l c : ℕ) → release u i k ≡ release u i l + c * p .cycle → ticks u p i k ≡ ticks u p i l
+unfolding ticks
+ticks-shift u p i k l c e =
+    count-same (runs u p i) (runs u p i) (release u i k) (release u i l) (deadline u i) (λ t h. runs-shift u p i k l c t e)
+
 -- a job gets what the job of the first cycle gets that it repeats
 pub ticks-again : (u : Tasks) (p : Plan) (i k : ℕ) → p .cycle ≡ cycle u → period u i ∣ cycle u → ticks u p i k ≡ ticks u p i (k % jobsOf u i)
-unfolding ticks
-ticks-again u p i k h d =
-    let n : ℕ = jobsOf u i in
-    let e : release u i k ≡ release u i (k % n) + k / n * p .cycle = rw h (release-again u i k d) in
-    count-same (runs u p i) (runs u p i) (release u i k) (release u i (k % n)) (deadline u i) (λ t l. runs-shift u p i k (k % n) (k / n) t e)
+ticks-again u p i k h d = ticks-shift u p i k (k % jobsOf u i) (k / jobsOf u i) (rw h (release-again u i k d))
 
 -- jobs of one cycle get c ticks each: so does every job
 pub every-job : (s : Set) → Sound s → (p : Plan) (i c : ℕ) → p .cycle ≡ cycle (s .tasks) → i < s .tasks .count

@@ -27,14 +27,14 @@ use Rattle.theorems.specs.Demand2.{accepted-iff}
 use Rattle.theorems.specs.Accepted.{finding-is-final}
 
 -- 0 is the number of acceptance alone
-zero-verdict : (v : Verdict) → numberOf v ≡ 0 → v ≡ verdict.Accepted
+pub zero-verdict : (v : Verdict) → numberOf v ≡ 0 → v ≡ verdict.Accepted
 zero-verdict verdict.Accepted e = refl
 zero-verdict verdict.BadSet e = absurd (omega arith)
 zero-verdict verdict.WrongLength e = absurd (omega arith)
 zero-verdict (verdict.BadSlot x) e = absurd (omega arith)
 zero-verdict (verdict.Twice t q r) e = absurd (omega arith)
 zero-verdict (verdict.Outside t q) e = absurd (omega arith)
-zero-verdict (verdict.WrongCount i k c) e = absurd (omega arith)
+zero-verdict (verdict.WrongCount i k c a b) e = absurd (omega arith)
 zero-verdict (verdict.BrokenLink k q n) e = absurd (omega arith)
 
 -- the set of the bytes that are lent as tasks

@@ -1,5 +1,5 @@
 -- Demand 3 for C: starting and stepping on bytes.
-use mathlib.Core.Path.{_≡_, refl, sym, ap, _∙_}
+use mathlib.Core.Path.{_≡_, sym, ap, _∙_}
 use mathlib.Core.Bool.{true, false, _&&_, _||_, not}
 use mathlib.Core.List.{List}
 use Prim.Native.Nat.{ℕ, suc}
@@ -12,7 +12,6 @@ use Rattle.vocabulary.specs.First.{firstOf}
 use Rattle.kinds.specs.Tasks.{Set, view}
 use Rattle.kinds.specs.Cycle.{cycle}
 use Rattle.reader.specs.Files.{takenOf}
-use Rattle.judge.specs.declared.Verdict.{Verdict}
 use Rattle.judge.specs.declared.Verdict.the-variants as verdict
 use Rattle.judge.specs.Answers as judgeAnswers
 use Rattle.judge.specs.Judgement.{verdictOf}
@@ -28,6 +27,7 @@ use Rattle.dispatcher.specs.Outcome.{writtenOf}
 use Rattle.dispatcher.proofs.StateBytes.{length-state}
 use Rattle.dispatcher.proofs.StepFacts.{Allowed, kept-shown, right-lengths, none-refuses, when-refused}
 use Rattle.dispatcher.specs.ForC.{startLeaves, startRules, startVerdict, firstBytes, startFor, stepLeaves, tickIn, answerIn, stepFor}
+use Rattle.theorems.specs.Demand2Bytes.{zero-verdict}
 use Rattle.theorems.specs.Demand3Terms.{Fits, LowReports}
 use Rattle.theorems.specs.Demand3Plans.{allowed-at, step-at}
 use Rattle.theorems.specs.Demand3.{bytes-keep}
@@ -88,21 +88,11 @@ module _ (tasks slots : List ℕ) (fitting : takenOf tasks .fits ≡ true) where
       step-in-bytes fits reports n out (allowed-at set slots fits reports n (reports n) out (low n) l)
 
 -- A start for C that answers 0 was on tasks that are taken, a state of 21 bytes and an accepted plan.
-zero-accepts : (v : Verdict) → judgeAnswers.numberOf v ≡ 0 → v ≡ verdict.Accepted
-zero-accepts verdict.Accepted e = refl
-zero-accepts verdict.BadSet e = absurd (omega arith)
-zero-accepts verdict.WrongLength e = absurd (omega arith)
-zero-accepts (verdict.BadSlot x) e = absurd (omega arith)
-zero-accepts (verdict.Twice t q r) e = absurd (omega arith)
-zero-accepts (verdict.Outside t q) e = absurd (omega arith)
-zero-accepts (verdict.WrongCount i k c) e = absurd (omega arith)
-zero-accepts (verdict.BrokenLink k q n) e = absurd (omega arith)
-
 pub started-in-bytes : (tasks slots b : List ℕ) → judgeAnswers.numberOf (startFor tasks slots b .verdict) ≡ 0
     → (takenOf tasks .fits ≡ true) × (length b ≡ 21) × (verdictOf (view (takenOf tasks .set)) slots ≡ verdict.Accepted)
 unfolding startFor startVerdict startRules verdictOf firstOf
 started-in-bytes tasks slots b e =
-    by (missed (not (takenOf tasks .fits)) _ _ _ (zero-accepts (startFor tasks slots b .verdict) e) (λ q. omega (arith, ap judgeAnswers.numberOf q)))
+    by (missed (not (takenOf tasks .fits)) _ _ _ (zero-verdict (startFor tasks slots b .verdict) e) (λ q. omega (arith, ap judgeAnswers.numberOf q)))
   where
     by : (not (takenOf tasks .fits) ≡ false)
         × (pick (not (eqb (length b) 21)) verdict.WrongLength (verdictOf (view (takenOf tasks .set)) slots) ≡ verdict.Accepted)

@@ -11,6 +11,8 @@ use lib.ListN.{length}
 use Rattle.vocabulary.specs.Test.{pick}
 use Rattle.vocabulary.specs.Bits.{has}
 use Rattle.kinds.specs.Tasks.{Set, view}
+use Rattle.kinds.specs.Plans.{planOf}
+use Rattle.kinds.specs.JobTicks.{Gets}
 use Rattle.reader.specs.Files.{takenOf}
 use Rattle.writer.specs.declared.Written.{Written}
 use Rattle.writer.specs.declared.Written.the-variants as written
@@ -34,6 +36,7 @@ use Rattle.dispatcher.proofs.StepFacts.{number-refused}
 use Rattle.theorems.specs.Names.{Names}
 use Rattle.theorems.specs.Demand2.{first-rule}
 use Rattle.theorems.specs.Demand2Bytes.{setOfTasks, Right, judged-set, judged-zero, screened-final}
+use Rattle.theorems.specs.TicksFell.{fell-in-bytes, start-as-judge}
 use Rattle.theorems.specs.ScreenTrue.{Finds, finding-true}
 use Rattle.theorems.specs.Demand3Terms.{Call}
 use Rattle.theorems.specs.Demand3Bytes.{refused-in-bytes}
@@ -53,7 +56,7 @@ module _ (tasks plan state : List ℕ) where
       by (verdict.BadSlot x) h = refl
       by (verdict.Twice t q r) h = refl
       by (verdict.Outside t q) h = refl
-      by (verdict.WrongCount i k c) h = refl
+      by (verdict.WrongCount i k c a b) h = refl
       by (verdict.BrokenLink k q n) h = refl
 
   pub step-refused : (report : ℕ) (output : List ℕ) (refused : stepAnswers.numberOf (stepFor tasks plan report state output .answer) ≡ 0 → ⊥)
@@ -101,6 +104,15 @@ judge-accepts-right = judged-zero
 -- else it names the first rule that is broken, and where (`Names`).
 pub judge-names-first : (tasks plan : List ℕ) (whole : takenOf tasks .fits ≡ true) → Names (setOfTasks tasks) plan (judgedOf tasks plan)
 judge-names-first tasks plan whole = rw (judged-set tasks plan whole) (first-rule (setOfTasks tasks) plan)
+
+-- Where it is 22, the evidence shows what the job gets (kinds `JobTicks.Gets`): how many ticks, and the first and the last of them in true time.
+pub judge-shows-ticks : (tasks plan : List ℕ) (i k c a b : ℕ) (wrong : judgedOf tasks plan ≡ verdict.WrongCount i k c a b)
+    → Gets (setOfTasks tasks .tasks) (planOf (setOfTasks tasks) plan) i k c a b
+judge-shows-ticks tasks plan i k c a b wrong = fell-in-bytes tasks plan wrong
+
+-- A start answers and shows the same.
+pub start-shows-same : (tasks plan : List ℕ) → startVerdict tasks plan 21 ≡ judgedOf tasks plan
+start-shows-same = start-as-judge
 
 -- What the screen finds is so (`Finds`),
 pub screen-is-true : (tasks : List ℕ) (whole : takenOf tasks .fits ≡ true) → Finds (setOfTasks tasks) (screenedOf tasks)

@@ -13,8 +13,10 @@ use Rattle.vocabulary.specs.Lowest.{lowest3-third}
 use Rattle.kinds.specs.Tasks.{Tasks, Patterns, Set, pairCount}
 use Rattle.kinds.specs.Cycle.{cycle, jobsOf}
 use Rattle.kinds.specs.Links.{repeats}
-use Rattle.kinds.specs.Plans.{Plan, planOf, ticks}
+use Rattle.kinds.specs.Plans.{Plan, planOf}
 use Rattle.kinds.specs.Sound.{sound}
+use Rattle.kinds.specs.JobTicks.{Gets}
+use Rattle.laws.specs.JobTicks.{gets-is, gets-ticks}
 use Rattle.judge.specs.declared.Verdict.{Verdict}
 use Rattle.judge.specs.declared.Verdict.the-variants as verdict
 use Rattle.judge.specs.Rules.{twin, mated, clashes, strays, strayed, miscounts, miscounted, breaks, brokenPair, brokenPattern}
@@ -34,10 +36,10 @@ outside-is : (u : Tasks) (p : Plan) (c q : ℕ) → c ≡ least (strayed u p) (p
 unfolding outsideAt
 outside-is u p c q a b = rw (← a, ← b)
 
-wrong-is : (u : Tasks) (p : Plan) (i k c : ℕ) → i ≡ least (miscounted u p) (u .count) → k ≡ least (miscounts u p i) (jobsOf u i) → c ≡ ticks u p i k
-    → verdict.WrongCount i k c ≡ wrongAt u p
+wrong-is : (u : Tasks) (p : Plan) (i k : ℕ) {c a b : ℕ} → i ≡ least (miscounted u p) (u .count) → k ≡ least (miscounts u p i) (jobsOf u i)
+    → Gets u p i k c a b → verdict.WrongCount i k c a b ≡ wrongAt u p
 unfolding wrongAt
-wrong-is u p i k c a b e = rw (← a, ← b, ← e)
+wrong-is u p i k x y g = let w = gets-ticks u p i k g in rw (← x, ← y, ← w .0, ← w .1, ← w .2)
 
 broken-is : (u : Tasks) (v : Patterns) (p : Plan) (k q n : ℕ) → k ≡ least (brokenPattern u v p) (v .count)
     → q ≡ least (brokenPair u v p k) (pairCount v k) → n ≡ least (breaks u v p k q) (repeats u v k) → verdict.BrokenLink k q n ≡ brokenAt u v p
@@ -87,7 +89,7 @@ module _ (s : Set) (slots : List ℕ) where
       }
       also record {
         kept = (λ e. record { none = none-holds2 (count-search u p) (u .count) e }, λ k. holds-none2 (count-search u p) (u .count) (k .none));
-        breach = λ e. (lowest2 (count-search u p) (u .count) e, refl);
+        breach = λ e. (lowest2 (count-search u p) (u .count) e, gets-is u p _ _);
         number = refl;
       }
       also record {
@@ -119,11 +121,11 @@ module _ (s : Set) (slots : List ℕ) where
       let f = stray-search u p in
       let w = n .broken in
       outside-is u p c q (lowest2-first f h w) (lowest2-second f h w) ∙ sym (at (verdict.Outside c q) n ∙ rw (lowest2-some f h w))
-  is-verdict (verdict.WrongCount i k c) n =
+  is-verdict (verdict.WrongCount i k c a b) n =
       let f = count-search u p in
       let w = n .broken .0 in
-      wrong-is u p i k c (lowest2-first f (u .count) w) (lowest2-second f (u .count) w) (n .broken .1)
-      ∙ sym (at (verdict.WrongCount i k c) n ∙ rw (lowest2-some f (u .count) w))
+      wrong-is u p i k (lowest2-first f (u .count) w) (lowest2-second f (u .count) w) (n .broken .1)
+      ∙ sym (at (verdict.WrongCount i k c a b) n ∙ rw (lowest2-some f (u .count) w))
   is-verdict (verdict.BrokenLink k q x) n =
       let f = link-search u v p in
       let w = n .broken in

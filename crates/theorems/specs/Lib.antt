@@ -28,6 +28,7 @@ pub mod Demand3Bytes
 pub mod Demand3ForC
 pub mod Accepted
 pub mod Demand2Bytes
+pub mod TicksFell
 pub mod ShutOut
 pub mod SameTasks
 pub mod SameVerdict

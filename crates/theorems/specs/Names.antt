@@ -10,6 +10,7 @@ use Rattle.kinds.specs.Links.{linkFrom, linkTo, repeats}
 use Rattle.kinds.specs.Plans.{Plan, planOf, slot, ticks}
 use Rattle.kinds.specs.Sound.{sound}
 use Rattle.kinds.specs.Valid.{LinkKept}
+use Rattle.kinds.specs.JobTicks.{Gets}
 use Rattle.judge.specs.declared.Verdict.{Verdict}
 use Rattle.judge.specs.declared.Verdict.the-variants as verdict
 use Rattle.judge.specs.Answers.{numberOf}
@@ -85,15 +86,16 @@ KeptBefore s slots n = (m : ℕ) → earlier (numbersOf (rules s slots)) m n ≡
 abbrev pub Nothing : Type 0
 Nothing = Unit {0}
 
--- ---- the rule that is broken, and that the evidence is its lowest (rule R7.6). 22 also shows how many ticks the job gets, and 23 a k below H/p.
+-- ---- the rule that is broken, and that the evidence is its lowest (rule R7.6). 22 also shows what the job gets, which is how many ticks, and the first and the last
+-- of them in true time, and 23 a k below H/p.
 unfoldable pub Breach : Set → List ℕ → Verdict → Type 0
 Breach s slots verdict.BadSet = sound s ≡ false
 Breach s slots verdict.WrongLength = length slots ≡ s .processors * cycle (s .tasks) → ⊥
 Breach s slots (verdict.BadSlot e) = Lowest (TooHigh s slots) (length slots) e
 Breach s slots (verdict.Twice t q r) = Lowest3 (Doubled (planOf s slots)) (cycle (s .tasks)) (λ x. s .processors) (λ x y. s .processors) t q r
 Breach s slots (verdict.Outside c q) = Lowest2 (Misplaced (s .tasks) (planOf s slots)) (cycle (s .tasks)) (λ x. s .processors) c q
-Breach s slots (verdict.WrongCount i k c) =
-    Lowest2 (Miscounted (s .tasks) (planOf s slots)) (s .tasks .count) (jobsOf (s .tasks)) i k × (c ≡ ticks (s .tasks) (planOf s slots) i k)
+Breach s slots (verdict.WrongCount i k c a b) =
+    Lowest2 (Miscounted (s .tasks) (planOf s slots)) (s .tasks .count) (jobsOf (s .tasks)) i k × Gets (s .tasks) (planOf s slots) i k c a b
 Breach s slots (verdict.BrokenLink k q n) =
     Lowest3 (LinkBroken (s .tasks) (s .patterns) (planOf s slots)) (s .patterns .count) (pairCount (s .patterns))
     (λ x y. repeats (s .tasks) (s .patterns) x) k q n

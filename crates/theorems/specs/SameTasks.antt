@@ -1,5 +1,5 @@
 -- Two sets that agree on what counts, which is the counts and the entries within them: what is made of their tasks and patterns is the same.
-use mathlib.Core.Path.{_≡_, refl, sym, ap, ap₂, _∙_}
+use mathlib.Core.Path.{_≡_, refl, sym, ap, ap₂, _∙_, fun-ext}
 use mathlib.Core.Bool.{Bool, true, false, _&&_}
 use mathlib.Core.List.{List, _∷_}
 use Prim.Native.Nat.{ℕ, suc, _+_, _-_, _*_, _/_, _<_, _≤_}
@@ -7,7 +7,7 @@ use native.Mathlib.Omega.{arith}
 use lib.Dec.{leb, ltb}
 use Rattle.vocabulary.specs.Test.{pick}
 use Rattle.vocabulary.specs.First.{Rule, firstOf}
-use Rattle.vocabulary.specs.Least.{least, least-is, least-same}
+use Rattle.vocabulary.specs.Least.{least, least-is, least-same, some, greatest}
 use Rattle.vocabulary.specs.Count.{count, count-same}
 use Rattle.vocabulary.specs.Total.{total-up}
 use Rattle.kinds.specs.Tasks.{Set, period, running, offset, deadline, fromTask, toTask, pairCount, pairsIn, pairsBefore}
@@ -15,7 +15,7 @@ use Rattle.kinds.specs.Tasks.{firstIn, secondIn, pairFirst, pairSecond}
 use Rattle.kinds.specs.Cycle.{jobsOf, jobsBefore}
 use Rattle.kinds.specs.Jobs.{release, due, numberOfJob, taskOfJob, jobOfJob}
 use Rattle.kinds.specs.Links.{common, linkFrom, linkTo, repeats}
-use Rattle.kinds.specs.Plans.{Plan, plan, planOf, shown, awake, runs, ticks}
+use Rattle.kinds.specs.Plans.{Plan, plan, planOf, shown, awake, runs, ticks, runsPast, firstTick, lastTick}
 use Rattle.kinds.proofs.SoundFacts.{Sound}
 use Rattle.kinds.proofs.PatternWalk.{before-more}
 use Rattle.kinds.proofs.WhatCounts.{Agree, cycle-agree, jobs-of-agree, jobs-before-agree, before-agree, common-agree}
@@ -67,6 +67,24 @@ module _ (s t : Set) (g : Agree s t) where
       count-same (runs (s .tasks) p i) (runs (t .tasks) p i) (release (s .tasks) i k) (release (s .tasks) i k) (deadline (s .tasks) i)
       (λ x h. same-runs p i (release (s .tasks) i k + x) l)
       ∙ ap₂ (count (runs (t .tasks) p i)) (same-release i k l) (same-deadline i l)
+
+  -- ---- where a job's ticks fall
+  same-past : (p : Plan) (i k : ℕ) → i < s .tasks .count → runsPast (s .tasks) p i k ≡ runsPast (t .tasks) p i k
+  same-past p i k l =
+      fun-ext (λ x. same-runs p i (release (s .tasks) i k + x) l ∙ ap (λ (r : ℕ). runs (t .tasks) p i (r + x)) (same-release i k l))
+
+  pub same-first-tick : (p : Plan) (i k : ℕ) → i < s .tasks .count → firstTick (s .tasks) p i k ≡ firstTick (t .tasks) p i k
+  unfolding firstTick
+  same-first-tick p i k l =
+      ap₂ (λ (f : ℕ → Bool) (d : ℕ). release (s .tasks) i k + pick (some f d) (least f d) 0) (same-past p i k l) (same-deadline i l)
+      ∙ ap (λ (r : ℕ). r + pick (some (runsPast (t .tasks) p i k) (deadline (t .tasks) i)) (least (runsPast (t .tasks) p i k) (deadline (t .tasks) i)) 0)
+      (same-release i k l)
+
+  pub same-last-tick : (p : Plan) (i k : ℕ) → i < s .tasks .count → lastTick (s .tasks) p i k ≡ lastTick (t .tasks) p i k
+  unfolding lastTick
+  same-last-tick p i k l =
+      ap₂ (λ (f : ℕ → Bool) (d : ℕ). release (s .tasks) i k + greatest f d) (same-past p i k l) (same-deadline i l)
+      ∙ ap (λ (r : ℕ). r + greatest (runsPast (t .tasks) p i k) (deadline (t .tasks) i)) (same-release i k l)
 
   -- ---- jobs by their numbers
   pub same-task : (x : ℕ) → taskOfJob (s .tasks) x ≡ taskOfJob (t .tasks) x

@@ -15,7 +15,7 @@ use Rattle.kinds.specs.Tasks.{Tasks, Patterns, Set, period, offset, deadline, f
 use Rattle.kinds.specs.Cycle.{cycle, jobsOf}
 use Rattle.kinds.specs.Jobs.{release}
 use Rattle.kinds.specs.Links.{linkFrom, linkTo, repeats}
-use Rattle.kinds.specs.Plans.{Plan, planOf, slot, runs, ticks}
+use Rattle.kinds.specs.Plans.{Plan, planOf, slot, runs, ticks, firstTick, lastTick}
 use Rattle.kinds.specs.Sound.{sound}
 use Rattle.kinds.proofs.SoundFacts.{Sound, sound-facts}
 use Rattle.kinds.proofs.WhatCounts.{Agree, cycle-agree, jobs-of-agree, sound-agree}
@@ -27,7 +27,7 @@ use Rattle.judge.specs.Judgement.{highAt, outsideAt, wrongAt, brokenAt, planRul
 use Rattle.dispatcher.specs.declared.State.{State}
 use Rattle.dispatcher.specs.Refusals.{startedOf}
 use Rattle.theorems.specs.SameTasks.{first-same, same-period, same-running, same-offset, same-deadline, same-plan, same-release, same-runs}
-use Rattle.theorems.specs.SameTasks.{same-ticks, same-from, same-to, same-pairs, same-repeats, same-link-from, same-link-to}
+use Rattle.theorems.specs.SameTasks.{same-ticks, same-first-tick, same-last-tick, same-from, same-to, same-pairs, same-repeats, same-link-from, same-link-to}
 
 -- no slot of a plan is above n, also past its end
 low-slot : (p : Plan) (n : ℕ) → some (high (p .slots) n) (length (p .slots)) ≡ false → (c q : ℕ) → slot p c q ≤ n
@@ -37,6 +37,10 @@ low-slot p n e c q =
     ⊎-elim (λ l. ltb-false n (getD (p .slots) x 0) (some-not (high (p .slots) n) (length (p .slots)) e x l))
     (λ l. let z = List·getD-eq-default (p .slots) 0 l in omega (arith, z))
     (lt-or-le x (length (p .slots)))
+
+-- job k of task i, with what it gets
+abbrev fellAt : Tasks → Plan → ℕ → ℕ → Verdict
+fellAt u p i k = verdict.WrongCount i k (ticks u p i k) (firstTick u p i k) (lastTick u p i k)
 
 -- the lowest broken link of pattern k
 abbrev linkAt : Tasks → Patterns → Plan → ℕ → Verdict
@@ -97,14 +101,18 @@ module _ (s t : Set) (g : Agree s t) (f : Sound s) (p : Plan) where
   any-miscounted : some (miscounted u p) (u .count) ≡ some (miscounted w p) (w .count)
   any-miscounted = some-same (miscounted u p) (miscounted w p) (u .count) same-miscounted ∙ ap (some (miscounted w p)) (g .task-count)
 
+  same-fell : (i k : ℕ) → i < u .count → fellAt u p i k ≡ fellAt w p i k
+  same-fell i k l = rw (same-ticks s t g p i k l, same-first-tick s t g p i k l, same-last-tick s t g p i k l)
+
   same-wrong : some (miscounted u p) (u .count) ≡ true → wrongAt u p ≡ wrongAt w p
   unfolding wrongAt
   same-wrong e =
       let i : ℕ = least (miscounted u p) (u .count) in
       let l : i < u .count = some-at (miscounted u p) (u .count) e .0 in
       let a = least-same (miscounted u p) (miscounted w p) (u .count) same-miscounted ∙ ap (least (miscounted w p)) (g .task-count) in
-      ap₂ (verdict.WrongCount i) (least-job i l) (same-ticks s t g p i (least (miscounts u p i) (jobsOf u i)) l ∙ ap (ticks w p i) (least-job i l))
-      ∙ ap (λ (j : ℕ). verdict.WrongCount j (least (miscounts w p j) (jobsOf w j)) (ticks w p j (least (miscounts w p j) (jobsOf w j)))) a
+      same-fell i (least (miscounts u p i) (jobsOf u i)) l
+      ∙ ap (fellAt w p i) (least-job i l)
+      ∙ ap (λ (j : ℕ). fellAt w p j (least (miscounts w p j) (jobsOf w j))) a
 
   -- ---- 23
   past-release : (i k x : ℕ) → i < u .count → runs u p i (release u i k + x) ≡ runs w p i (release w i k + x)

@@ -6,7 +6,7 @@ use Prim.Native.Nat.{ℕ, _^_, _<_}
 use native.Mathlib.Omega.{arith}
 use lib.ListN.{getD}
 use Rattle.vocabulary.specs.Test.{clash}
-use Rattle.vocabulary.specs.Least.{least, all}
+use Rattle.vocabulary.specs.Least.{least, greatest, all}
 use Rattle.vocabulary.specs.First.{firstOf}
 use Rattle.vocabulary.specs.Count.{count}
 use Rattle.vocabulary.specs.Total.{total}
@@ -22,7 +22,8 @@ use Rattle.kinds.specs.Cycle.{cycle, jobsOf, jobsBefore, jobs, cycleFits}
 use Rattle.kinds.specs.Jobs.{release, due, taskOfJob, jobOfJob}
 use Rattle.kinds.specs.Links.{links}
 use Rattle.kinds.specs.Sound.{attributesFit, taskFits, openingFits, sound}
-use Rattle.kinds.specs.Plans.{planOf, slot, shows, shown, awake, runs, ticks}
+use Rattle.kinds.specs.Plans.{planOf, slot, shows, shown, awake, runs, ticks, firstTick, lastTick}
+use Rattle.laws.specs.JobTicks.{gets-ticks}
 use Rattle.slots.specs.High.{high}
 use Rattle.judge.specs.declared.Verdict.{Verdict}
 use Rattle.judge.specs.declared.Verdict.the-variants as verdict
@@ -71,16 +72,16 @@ pub record RightJudge (judge : Set → List ℕ → Verdict) : Type 0 where
 pub right-judge : RightJudge verdictOf
 right-judge = record { names = first-rule }
 
-judged : (verdictOf small full ≡ verdict.Accepted) × (verdictOf small half ≡ verdict.WrongCount 0 0 1)
+judged : (verdictOf small full ≡ verdict.Accepted) × (verdictOf small half ≡ verdict.WrongCount 0 0 1 0 0)
 unfolding verdictOf rules planRules firstOf least all count total lcm lcmOf holds cycle jobsOf jobsBefore jobs cycleFits release links attributesFit
-    taskFits openingFits sound slot shows shown awake runs ticks high twin mated clashes strays strayed miscounts miscounted wrongAt
+    taskFits openingFits sound slot shows shown awake runs ticks high twin mated clashes strays strayed miscounts miscounted wrongAt firstTick lastTick greatest
 judged = (refl, refl)
 
 module _ (judge : Set → List ℕ → Verdict) (right : RightJudge judge) where
   accepts : judge small full ≡ verdict.Accepted
   accepts = only-verdict small full (judge small full) (right .names small full) ∙ judged .0
 
-  refuses : judge small half ≡ verdict.WrongCount 0 0 1
+  refuses : judge small half ≡ verdict.WrongCount 0 0 1 0 0
   refuses = only-verdict small half (judge small half) (right .names small half) ∙ judged .1
 
   -- ==== A judge whose verdicts are so does not refuse everything,
@@ -95,10 +96,12 @@ module _ (judge : Set → List ℕ → Verdict) (right : RightJudge judge) where
   pub not-repeat : (v : Verdict) → ((s : Set) (slots : List ℕ) → judge s slots ≡ v) → ⊥
   not-repeat v h = omega (arith, ap numberOf (sym accepts ∙ h small full ∙ sym (h small half) ∙ refuses))
 
--- ==== No number of 22 is invented: with another count than the ticks that the job gets, it does not claim what is so.
-pub no-invented-count : (s : Set) (slots : List ℕ) (i k c : ℕ) → (c ≡ ticks (s .tasks) (planOf s slots) i k → ⊥) → Names s slots (verdict.WrongCount i k c) → ⊥
+-- ==== No number of 22 is invented: with another count than the ticks that the job gets, or another first or last tick, it does not claim what is so.
+pub no-invented-ticks : (s : Set) (slots : List ℕ) (i k c a b : ℕ)
+    → ((c ≡ ticks (s .tasks) (planOf s slots) i k) × (a ≡ firstTick (s .tasks) (planOf s slots) i k) × (b ≡ lastTick (s .tasks) (planOf s slots) i k) → ⊥)
+    → Names s slots (verdict.WrongCount i k c a b) → ⊥
 unfolding Breach
-no-invented-count s slots i k c h n = h (n .broken .1)
+no-invented-ticks s slots i k c a b h n = h (gets-ticks (s .tasks) (planOf s slots) i k (n .broken .1))
 
 -- ---- screens
 -- every finding is true

@@ -13,5 +13,5 @@ askedBy verdict.WrongLength xs = 0
 askedBy (verdict.BadSlot e) xs = 0
 askedBy (verdict.Twice t q r) xs = 0
 askedBy (verdict.Outside t q) xs = 0
-askedBy (verdict.WrongCount i k c) xs = taskIn xs i .running
+askedBy (verdict.WrongCount i k c a b) xs = taskIn xs i .running
 askedBy (verdict.BrokenLink k q n) xs = 0

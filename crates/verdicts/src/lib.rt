@@ -10,7 +10,7 @@ pub fn asked_of(v: Verdict, attributes: &Attributes) -> u32
     ensures { λ r. ⌜ r ≡ askedBy v (now (attributes .entry)) ⌝ }
 {
     match v {
-        Verdict::WrongCount(i, _, _) => {
+        Verdict::WrongCount(i, _, _, _, _) => {
             let t = kinds::task_at(attributes, i as usize);
             t.running
         }
@@ -36,8 +36,21 @@ fn put_outside(line: Line, t: u32, q: u32) -> Line {
 }
 
 fn put_miscount(line: Line, i: u32, k: u32, c: u32, asked: u32) -> Line {
-    let told = wording::put_job(put_three(line, i, k, c), i, k, b" gets ");
+    let told = wording::put_job(line, i, k, b" gets ");
     wording::put_counted(told, c as u64, b" tick").put_named(b", not ", asked as u64)
+}
+
+// Where the c ticks of a job fell: the first at a, the last at b. With no tick both are its release.
+fn put_fell(line: Line, c: u32, a: u32, b: u32) -> Line {
+    if c == 0 {
+        return line.put_named(b": none from its release at ", a as u64)
+            .put(b" on");
+    }
+    if c == 1 {
+        return line.put_named(b": at ", a as u64);
+    }
+    line.put_named(b": from ", a as u64)
+        .put_named(b" to ", b as u64)
 }
 
 fn put_broken(line: Line, k: u32, q: u32, n: u32) -> Line {
@@ -58,7 +71,10 @@ fn put_meaning(line: Line, v: Verdict, asked: u32) -> Line {
         }
         Verdict::Twice(t, q, r) => put_twice(line, t, q, r),
         Verdict::Outside(t, q) => put_outside(line, t, q),
-        Verdict::WrongCount(i, k, c) => put_miscount(line, i, k, c, asked),
+        Verdict::WrongCount(i, k, c, a, b) => {
+            let shown = wording::put_two(put_three(line, i, k, c), a, b);
+            put_fell(put_miscount(shown, i, k, c, asked), c, a, b)
+        }
         Verdict::BrokenLink(k, q, n) => put_broken(line, k, q, n),
     }
 }

@@ -47,6 +47,27 @@ two-of-requires c κs = search needs
 enum-known-v-4 : tie.Need-enum-known-v-4
 enum-known-v-4 c = search needs
 
+cast-five-of : tie.Need-cast-five-of
+cast-five-of c = search needs
+
+cast-five-of-2 : tie.Need-cast-five-of-2
+cast-five-of-2 c = search needs
+
+cast-five-of-3 : tie.Need-cast-five-of-3
+cast-five-of-3 c = search needs
+
+cast-five-of-4 : tie.Need-cast-five-of-4
+cast-five-of-4 c = search needs
+
+cast-five-of-5 : tie.Need-cast-five-of-5
+cast-five-of-5 c = search needs
+
+five-of-requires : tie.Need-five-of-requires
+five-of-requires c κs = search needs
+
+enum-known-v-5 : tie.Need-enum-known-v-5
+enum-known-v-5 c = search needs
+
 cast-three-of-4 : tie.Need-cast-three-of-4
 cast-three-of-4 c = search needs
 
@@ -58,21 +79,6 @@ cast-three-of-6 c = search needs
 
 three-of-requires-2 : tie.Need-three-of-requires-2
 three-of-requires-2 c κs = search needs
-
-enum-known-v-5 : tie.Need-enum-known-v-5
-enum-known-v-5 c = search needs
-
-cast-three-of-7 : tie.Need-cast-three-of-7
-cast-three-of-7 c = search needs
-
-cast-three-of-8 : tie.Need-cast-three-of-8
-cast-three-of-8 c = search needs
-
-cast-three-of-9 : tie.Need-cast-three-of-9
-cast-three-of-9 c = search needs
-
-three-of-requires-3 : tie.Need-three-of-requires-3
-three-of-requires-3 c κs = search needs
 
 returns : tie.Need-returns
 returns c = search needs
@@ -93,10 +99,10 @@ returns-6 : tie.Need-returns-6
 returns-6 c = rw (c .before .before .v3 .given .1) (c .two-of .ensures)
 
 returns-7 : tie.Need-returns-7
-returns-7 c = rw (c .before .before .v4 .given .1) (c .three-of2 .ensures)
+returns-7 c = rw (c .before .before .v4 .given .1) (c .five-of .ensures)
 
 returns-8 : tie.Need-returns-8
-returns-8 c = rw (c .before .before .v5 .given .1) (c .three-of3 .ensures)
+returns-8 c = rw (c .before .before .v5 .given .1) (c .three-of2 .ensures)
 
 pub evidence-of-spec : {M : Type 1} → statement M
 evidence-of-spec =
@@ -117,15 +123,17 @@ evidence-of-spec =
     cast-two-of-2
     two-of-requires
     enum-known-v-4
+    cast-five-of
+    cast-five-of-2
+    cast-five-of-3
+    cast-five-of-4
+    cast-five-of-5
+    five-of-requires
+    enum-known-v-5
     cast-three-of-4
     cast-three-of-5
     cast-three-of-6
     three-of-requires-2
-    enum-known-v-5
-    cast-three-of-7
-    cast-three-of-8
-    cast-three-of-9
-    three-of-requires-3
     returns
     returns-2
     returns-3

@@ -21,7 +21,7 @@ nothing verdict.WrongLength xs e = refl
 nothing (verdict.BadSlot a) xs e = refl
 nothing (verdict.Twice a b d) xs e = refl
 nothing (verdict.Outside a b) xs e = refl
-nothing (verdict.WrongCount a b d) xs e = absurd (miss (0 ∷ 1 ∷ 2 ∷ 3 ∷ 4 ∷ 5 ∷ 7 ∷ []) 6 tt e)
+nothing (verdict.WrongCount a b d f g) xs e = absurd (miss (0 ∷ 1 ∷ 2 ∷ 3 ∷ 4 ∷ 5 ∷ 7 ∷ []) 6 tt e)
 nothing (verdict.BrokenLink a b d) xs e = refl
 
 enum-known-v : tie.Need-enum-known-v

@@ -3,7 +3,7 @@ use Prim.Native.Nat.{_-_}
 use Rattle.vocabulary.specs.Least.{Seeking, seek, on, miss}
 use Rattle.kinds.specs.Tasks.{tasksOf, patternsOf}
 use Rattle.judge.specs.Rules.{miscounted}
-use Rattle.judge.proofs.LaneLaws.{ask-here}
+use Rattle.judge.proofs.LaneLaws.{ask-times}
 use Rattle.judge.specs.TableNeeds.{Counted}
 use Rattle.judge.proofs.CountLaws.{task-room, task-tells, task-no, wrong-found}
 use Rattle.judge.proofs.VerdictChain.{link-needs, none-wrong}
@@ -28,18 +28,25 @@ wrong-job-requires : tie.Need-wrong-job-requires Inv-loop μ-loop
 wrong-job-requires c κs = task-tells (c .before .before .before .before .pre) (c .before .if1 .taken) (c .lane-of .ensures)
 
 got-requires : tie.Need-got-requires Inv-loop μ-loop
-got-requires c κs = let t = task-tells (c .before .before .before .before .before .before .before .pre) (c .before .before .before .before .if1 .taken) (c .before .before .before .lane-of .ensures) in
-    (t, omega (arith, ask-here t (c .if2 .taken)))
+got-requires c κs = task-tells (c .before .before .before .before .before .before .before .pre) (c .before .before .before .before .if1 .taken) (c .before .before .before .lane-of .ensures)
 
 cast-t12 : tie.Need-cast-t12 Inv-loop μ-loop
 cast-t12 c = omega (arith, task-room (c .before .before .before .before .before .before .before .before .pre) (c .before .before .before .before .before .if1 .taken))
 
+cast-t13 : tie.Need-cast-t13 Inv-loop μ-loop
+cast-t13 c = let t = task-tells (c .before .before .before .before .before .before .before .before .before .pre) (c .before .before .before .before .before .before .if1 .taken) (c .before .before .before .before .before .lane-of .ensures) in
+    omega (arith, ask-times t (c .before .before .if2 .taken) (c .before .got .ensures t))
+
+cast-t14 : tie.Need-cast-t14 Inv-loop μ-loop
+cast-t14 c = let t = task-tells (c .before .before .before .before .before .before .before .before .before .before .pre) (c .before .before .before .before .before .before .before .if1 .taken) (c .before .before .before .before .before .before .lane-of .ensures) in
+    omega (arith, ask-times t (c .before .before .before .if2 .taken) (c .before .before .got .ensures t))
+
 returns : tie.Need-returns Inv-loop μ-loop
 returns c = λ w.
-    let l = c .before .before .before .before .before .if1 .taken in
-    let e = c .before .before .before .before .lane-of .ensures in
+    let l = c .before .before .before .before .before .before .before .if1 .taken in
+    let e = c .before .before .before .before .before .before .lane-of .ensures in
     let t = task-tells w l e in
-    wrong-found w l e (c .before .before .before .wrong-job .ensures t) (c .before .before .before .before .before .before .before .loop .inv w) (c .before .if2 .taken) (c .got .ensures t)
+    wrong-found w l e (c .before .before .before .before .before .wrong-job .ensures t) (c .before .before .before .before .before .before .before .before .before .loop .inv w) (c .before .before .before .if2 .taken) (c .before .before .got .ensures t)
 
 add-i : tie.Need-add-i Inv-loop μ-loop
 add-i c = search needs
@@ -73,6 +80,8 @@ judge-counts-spec =
     wrong-job-requires
     got-requires
     cast-t12
+    cast-t13
+    cast-t14
     returns
     add-i
     loop-less

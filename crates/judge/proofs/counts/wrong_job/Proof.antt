@@ -1,10 +1,9 @@
-use native.Mathlib.Omega.{arith}
 use Prim.Native.Nat.{_-_}
 use Rattle.vocabulary.specs.Least.{Seeking, seek, on, hit, miss}
 use Rattle.kinds.specs.Cycle.{jobsOf}
 use Rattle.judge.specs.Rules.{miscounts}
 use Rattle.judge.specs.TableNeeds.{Tells}
-use Rattle.judge.proofs.LaneLaws.{ask-here, lane-low, lane-high}
+use Rattle.judge.proofs.LaneLaws.{lane-low, lane-high}
 use Rattle.judge.proofs.CountLaws.{miscount-yes, miscount-no}
 use borrow.Author.Needs.{needs}
 use Rattle.judge.proofs.counts.wrong_job.Statement.{statement}
@@ -20,7 +19,7 @@ loop-holds : tie.Need-loop-holds Inv-loop μ-loop
 loop-holds c = λ t. seek _ _
 
 got-requires : tie.Need-got-requires Inv-loop μ-loop
-got-requires c κs = (c .before .before .before .pre, omega (arith, ask-here (c .before .before .before .pre) (c .if1 .taken)))
+got-requires c κs = c .before .before .before .pre
 
 returns : tie.Need-returns Inv-loop μ-loop
 returns c = λ t. hit _ _ _ (c .before .before .before .before .before .before .loop .inv t) (miscount-yes t (c .before .before .before .got .ensures t) (c .if2 .taken))

@@ -1,6 +1,6 @@
 use native.Mathlib.Omega.{arith}
 use mathlib.Core.Path.{refl}
-use Rattle.judge.proofs.LaneLaws.{ask-here, ask-release, lane-none, lane-some}
+use Rattle.judge.proofs.LaneLaws.{ask-here, ask-release, ask-times, lane-none, lane-some}
 use borrow.Author.Needs.{needs}
 use Rattle.judge.proofs.gets.ticks_of_job.Statement.{statement}
 use Rattle.judge.proofs.gets.ticks_of_job.Tie as tie
@@ -26,17 +26,28 @@ mul-o c = omega (arith, ask-release (c .before .before .before .before .pre .0) 
 add-o : tie.Need-add-o
 add-o c = omega (arith, ask-release (c .before .before .before .before .before .pre .0) (c .before .before .before .before .before .pre .1))
 
+cast-o : tie.Need-cast-o
+cast-o c = omega (arith, ask-release (c .before .before .before .before .before .pre .0) (c .before .before .before .before .before .pre .1))
+
 returns : tie.Need-returns
 returns c = λ t. lane-none t (c .before .before .before .before .before .pre .1) refl (c .before .before .if1 .taken)
 
 array-read-t6 : tie.Need-array-read-t6
 array-read-t6 c = search needs
 
-array-read-t19 : tie.Need-array-read-t19
-array-read-t19 c = search needs
+array-read-t20 : tie.Need-array-read-t20
+array-read-t20 c = search needs
 
-array-read-t22 : tie.Need-array-read-t22
-array-read-t22 c = search needs
+cast-t21 : tie.Need-cast-t21
+cast-t21 c = let p = c .before .before .before .pre in
+    omega (arith, ask-times (p .0) (p .1) (lane-some (p .0) (p .1) refl (c .if1 .left)))
+
+array-read-t24 : tie.Need-array-read-t24
+array-read-t24 c = search needs
+
+cast-t25 : tie.Need-cast-t25
+cast-t25 c = let p = c .before .before .before .pre in
+    omega (arith, ask-times (p .0) (p .1) (lane-some (p .0) (p .1) refl (c .if1 .left)))
 
 returns-2 : tie.Need-returns-2
 returns-2 c = λ t. lane-some t (c .before .before .before .pre .1) refl (c .if1 .left)
@@ -52,8 +63,11 @@ ticks-of-job-spec =
     array-read-if1
     mul-o
     add-o
+    cast-o
     returns
     array-read-t6
-    array-read-t19
-    array-read-t22
+    array-read-t20
+    cast-t21
+    array-read-t24
+    cast-t25
     returns-2)

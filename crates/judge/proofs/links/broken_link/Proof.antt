@@ -27,12 +27,10 @@ loop-holds c = let z = pair-is (c .before .pre) (c .pair-at .ensures .0) in
     (omega (arith, z .0), omega (arith, z .1), λ w. seek _ _)
 
 got-requires : tie.Need-got-requires Inv-loop μ-loop
-got-requires c κs = let l = c .before .before .loop .inv in
-    (pair-from (c .before .before .before .before .pre), omega (arith, pair-jobs (c .before .before .before .before .pre) (l .0) (l .1) (c .if1 .taken)))
+got-requires c κs = pair-from (c .before .before .before .before .pre)
 
 got-requires-2 : tie.Need-got-requires-2 Inv-loop μ-loop
-got-requires-2 c κs = let l = c .before .before .before .loop .inv in
-    (pair-to (c .before .before .before .before .before .pre), omega (arith, pair-jobs (c .before .before .before .before .before .pre) (l .0) (l .1) (c .before .if1 .taken)))
+got-requires-2 c κs = pair-to (c .before .before .before .before .before .pre)
 
 returns : tie.Need-returns Inv-loop μ-loop
 returns c = let l = c .before .before .before .before .before .before .before .loop .inv in
