@@ -14,7 +14,7 @@ use Rattle.vocabulary.specs.Test.{bit, pick, clash, both, same-test, lt-or-le, 
 use Rattle.vocabulary.specs.Least.{least, some, some-yes, some-at}
 use Rattle.vocabulary.specs.Count.{count, count-same, count-none}
 use Rattle.vocabulary.specs.Rows.{row-div, count-once, count-rows}
-use Rattle.vocabulary.specs.Tally.{firstAt, lastAt}
+use Rattle.vocabulary.specs.Tally.{countAt, firstAt, lastAt}
 use Rattle.kinds.specs.Tasks.{Tasks, taskAt, period, offset, deadline}
 use Rattle.kinds.specs.Cycle.{jobsOf, jobsBefore, jobs}
 use Rattle.kinds.specs.Jobs.{release, numberOfJob, taskOfJob}
@@ -229,13 +229,20 @@ module _ (u : Tasks) (p : Plan) (f : Fit u p) where
             λ i k li lk.
             let n : ℕ = jobsBefore u i + k in
             let l : n < jobs u = number-fits i k li lk in
+            let e : countAt rows n ≡ ticks u p i k = t .noted .number n l ∙ number clean i k li lk in
             record {
-              number = t .noted .number n l ∙ number clean i k li lk;
-              bounds =
-                  λ x w. subst (λ (y : ℕ). (firstAt rows n ≤ y) × (y ≤ lastAt rows n)) (at-time i k x li lk w)
-                  (t .noted .bounds n (at i k x li lk w) l (at-room i k x li lk w) (at-key i k x li lk w));
-              first = λ h. t .noted .first n l h i k li lk refl;
-              last = λ h. t .noted .last n l h i k li lk refl;
+              some =
+                  λ h.
+                  record {
+                    number = e;
+                    bounds =
+                        λ x w. subst (λ (y : ℕ). (firstAt rows n ≤ y) × (y ≤ lastAt rows n)) (at-time i k x li lk w)
+                        (t .noted .bounds n (at i k x li lk w) l (at-room i k x li lk w) (at-key i k x li lk w));
+                    first = λ c. t .noted .first n l h i k li lk refl;
+                    last = λ c. t .noted .last n l h i k li lk refl;
+                    none = λ z. absurd (omega arith);
+                  };
+              none = λ z. sym e ∙ z;
             };
       }
 

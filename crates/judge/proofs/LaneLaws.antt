@@ -1,5 +1,5 @@
 -- What the table of one cycle tells of any job of a task, also of one past the cycle.
-use mathlib.Core.Path.{_≡_, sym, ap, _∙_, subst}
+use mathlib.Core.Path.{_≡_, ap, _∙_, subst}
 use mathlib.Core.Bool.{true}
 use mathlib.Core.List.{List}
 use Prim.Native.Nat.{ℕ, _+_, _-_, _*_, _/_, _%_, _<_, _≤_, _∣_}
@@ -96,14 +96,12 @@ module _ {rows : List (List ℕ)} {l : Lane} (t : Tells rows l) where
     row-is = rw (ex, t .base) (t .tallied .gets .each (t .task) k (t .low) (omega (arith, t .jobs)))
 
     pub lane-some : (countAt rows x ≡ 0 → ⊥) → Gets (t .tasks) (t .plan) (t .task) k (countAt rows x) (firstAt rows x) (lastAt rows x)
-    lane-some z =
-        let r = row-is in
-        record { number = r .number; bounds = r .bounds; first = r .first; last = r .last; none = λ e. absurd (z e) }
+    lane-some z = row-is .some (omega (arith, z))
 
     pub lane-none : countAt rows x ≡ 0
         → Gets (t .tasks) (t .plan) (t .task) k 0 (l .task .offset + k * l .task .period) (l .task .offset + k * l .task .period)
     unfolding release
-    lane-none z = rw (offset-is, period-is) (gets-none (t .tasks) (t .plan) (t .task) k (sym (row-is .number) ∙ z))
+    lane-none z = rw (offset-is, period-is) (gets-none (t .tasks) (t .plan) (t .task) k (row-is .none z))
 
   -- ---- its times are low
   pub ask-times : {k c a b : ℕ} → k < l .jobs → Gets (t .tasks) (t .plan) (t .task) k c a b → (a ≤ 12000) × (b ≤ 12000)

@@ -108,7 +108,7 @@ judge-names-first tasks plan whole = rw (judged-set tasks plan whole) (first-rul
 -- Where it is 22, the evidence shows what the job gets (kinds `JobTicks.Gets`): how many ticks, and the first and the last of them in true time.
 pub judge-shows-ticks : (tasks plan : List ℕ) (i k c a b : ℕ) (wrong : judgedOf tasks plan ≡ verdict.WrongCount i k c a b)
     → Gets (setOfTasks tasks .tasks) (planOf (setOfTasks tasks) plan) i k c a b
-judge-shows-ticks tasks plan i k c a b wrong = fell-in-bytes tasks plan wrong
+judge-shows-ticks tasks plan i k c a b wrong = fell-in-bytes tasks plan wrong .0
 
 -- A start answers and shows the same.
 pub start-shows-same : (tasks plan : List ℕ) → startVerdict tasks plan 21 ≡ judgedOf tasks plan

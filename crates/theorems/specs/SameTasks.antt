@@ -68,23 +68,25 @@ module _ (s t : Set) (g : Agree s t) where
       (λ x h. same-runs p i (release (s .tasks) i k + x) l)
       ∙ ap₂ (count (runs (t .tasks) p i)) (same-release i k l) (same-deadline i l)
 
-  -- ---- where a job's ticks fall
+  -- ---- where a job's ticks fall: whatever is made of its release, of when it runs past that, and of its deadline
   same-past : (p : Plan) (i k : ℕ) → i < s .tasks .count → runsPast (s .tasks) p i k ≡ runsPast (t .tasks) p i k
   same-past p i k l =
       fun-ext (λ x. same-runs p i (release (s .tasks) i k + x) l ∙ ap (λ (r : ℕ). runs (t .tasks) p i (r + x)) (same-release i k l))
 
+  same-made : (make : ℕ → (ℕ → Bool) → ℕ → ℕ) (p : Plan) (i k : ℕ) → i < s .tasks .count
+      → make (release (s .tasks) i k) (runsPast (s .tasks) p i k) (deadline (s .tasks) i)
+      ≡ make (release (t .tasks) i k) (runsPast (t .tasks) p i k) (deadline (t .tasks) i)
+  same-made make p i k l =
+      ap₂ (make (release (s .tasks) i k)) (same-past p i k l) (same-deadline i l)
+      ∙ ap (λ (r : ℕ). make r (runsPast (t .tasks) p i k) (deadline (t .tasks) i)) (same-release i k l)
+
   pub same-first-tick : (p : Plan) (i k : ℕ) → i < s .tasks .count → firstTick (s .tasks) p i k ≡ firstTick (t .tasks) p i k
   unfolding firstTick
-  same-first-tick p i k l =
-      ap₂ (λ (f : ℕ → Bool) (d : ℕ). release (s .tasks) i k + pick (some f d) (least f d) 0) (same-past p i k l) (same-deadline i l)
-      ∙ ap (λ (r : ℕ). r + pick (some (runsPast (t .tasks) p i k) (deadline (t .tasks) i)) (least (runsPast (t .tasks) p i k) (deadline (t .tasks) i)) 0)
-      (same-release i k l)
+  same-first-tick = same-made (λ r f d. r + pick (some f d) (least f d) 0)
 
   pub same-last-tick : (p : Plan) (i k : ℕ) → i < s .tasks .count → lastTick (s .tasks) p i k ≡ lastTick (t .tasks) p i k
   unfolding lastTick
-  same-last-tick p i k l =
-      ap₂ (λ (f : ℕ → Bool) (d : ℕ). release (s .tasks) i k + greatest f d) (same-past p i k l) (same-deadline i l)
-      ∙ ap (λ (r : ℕ). r + greatest (runsPast (t .tasks) p i k) (deadline (t .tasks) i)) (same-release i k l)
+  same-last-tick = same-made (λ r f d. r + greatest f d)
 
   -- ---- jobs by their numbers
   pub same-task : (x : ℕ) → taskOfJob (s .tasks) x ≡ taskOfJob (t .tasks) x

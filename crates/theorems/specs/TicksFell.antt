@@ -66,12 +66,14 @@ module _ (s : Set) (slots : List ℕ) {i k c a b : ℕ} (e : verdictOf s slots �
   pub fell-low : (a < 12000) × (b < 12000)
   fell-low = (low a (fell-within .0), low b (fell-within .1))
 
--- ==== The same for the bytes that C passes.
+-- ==== The same for the bytes that C passes; evidence of 32 bits shows both whole.
 pub fell-in-bytes : (tasks slots : List ℕ) {i k c a b : ℕ} → judgedOf tasks slots ≡ verdict.WrongCount i k c a b
-    → Gets (setOfTasks tasks .tasks) (planOf (setOfTasks tasks) slots) i k c a b
+    → Gets (setOfTasks tasks .tasks) (planOf (setOfTasks tasks) slots) i k c a b × (a < 12000) × (b < 12000)
 unfolding judgedOf
 fell-in-bytes tasks slots e =
-    ticks-fell (setOfTasks tasks) slots (took (takenOf tasks .fits) _ _ _ e (λ q. omega (arith, ap numberOf q)) .1)
+    let w = took (takenOf tasks .fits) _ _ _ e (λ q. omega (arith, ap numberOf q)) .1 in
+    let l = fell-low (setOfTasks tasks) slots w in
+    (ticks-fell (setOfTasks tasks) slots w, l .0, l .1)
 
 -- ==== A start with a state of 21 bytes answers as the judge does, with the same evidence.
 pub start-as-judge : (tasks slots : List ℕ) → startVerdict tasks slots 21 ≡ judgedOf tasks slots
