@@ -374,7 +374,7 @@ static void tell(void)
             printf("%s %d in %lu", n ? "," : "", possible[k][n], met[k][possible[k][n]]);
         printf("\n");
     }
-    printf("22, %lu calls:", miscounts);
+    printf("wrong counts of the judge, %lu calls:", miscounts);
     for (k = 0; k < FALLS; k++)
         printf("%s %s in %lu", k ? "," : "", falls[k], fell[k]);
     printf("\n");

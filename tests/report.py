@@ -283,7 +283,7 @@ def outside_section(lines):
             told.append(f'Source 003 adjusts times by rules that differ in part: {x}.')
         if re.match(r'seed \d+$', x):
             seed = x.split()[1]
-        if re.match(r'\w+, \d+ calls:', x):
+        if re.match(r'[\w ]+, \d+ calls:', x):
             met.append('- ' + re.sub(r'(\d{4,})', lambda m: f'{int(m[1]):,}', x))
         if 'left out' in x or 'not built' in x:
             problems.append(x[:1].upper() + x[1:] + '.')
