@@ -72,6 +72,19 @@ static void largest(made *f)
     f->jobs = 2048;
 }
 
+/* Any slots for 64 tasks on 8 processors with a cycle of 6,000 ticks, behind a head that is put. */
+static void fill(made *f, uint32_t jobs)
+{
+    uint32_t k;
+    f->tasks = f->length;
+    for (k = 0; k < 48000; k++)
+        f->bytes[f->length++] = (uint8_t)(k % 65);
+    f->processors = 8;
+    f->cycle = 6000;
+    f->count = 64;
+    f->jobs = jobs;
+}
+
 /* A head of 64 tasks, 64 patterns and 1,024 pairs, most numbers of its tasks of two bytes; with any 48,000 slots behind it. */
 static void longest_file(made *f)
 {
@@ -98,13 +111,7 @@ static void longest_file(made *f)
             }
             patterns++;
         }
-    f->tasks = f->length;
-    for (k = 0; k < 48000; k++)
-        f->bytes[f->length++] = (uint8_t)(k % 65);
-    f->processors = 8;
-    f->cycle = 6000;
-    f->count = 64;
-    f->jobs = 1568;
+    fill(f, 1568);
 }
 
 /* The longest file that we can make, of 51,783 bytes; that there is no longer one is argued here and not proved. A number of a pair has two bytes only where a
@@ -134,13 +141,7 @@ static void longest_of_all(made *f)
             put(f, back ? 1372 + k : 0);
         }
     }
-    f->tasks = f->length;
-    for (k = 0; k < 48000; k++)
-        f->bytes[f->length++] = (uint8_t)(k % 65);
-    f->processors = 8;
-    f->cycle = 6000;
-    f->count = 64;
-    f->jobs = 1563;
+    fill(f, 1563);
 }
 
 /* A head of 64 tasks with two periods in turn, and no pattern: its file ends there, which the reader refuses after all of the head's work. */

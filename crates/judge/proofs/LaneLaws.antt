@@ -1,6 +1,5 @@
 -- What the table of one cycle tells of any job of a task, also of one past the cycle.
 use mathlib.Core.Path.{_≡_, ap, _∙_, subst}
-use mathlib.Core.Bool.{true}
 use mathlib.Core.List.{List}
 use Prim.Native.Nat.{ℕ, _+_, _-_, _*_, _/_, _%_, _<_, _≤_, _∣_}
 use native.Mathlib.Nat.{div-add-mod', div-mul-cancel, le-div-iff-mul-le, le-of-dvd, mul-le-mul}
@@ -10,12 +9,11 @@ use Rattle.vocabulary.specs.Tally.{countAt, firstAt, lastAt}
 use Rattle.kinds.specs.declared.Task.{Task}
 use Rattle.kinds.specs.Tasks.{Tasks, taskAt, taskIn, task-in, period, offset}
 use Rattle.kinds.specs.Cycle.{jobsOf, jobsBefore, jobs}
-use Rattle.kinds.specs.Jobs.{release, inWindow, numberOfJob}
+use Rattle.kinds.specs.Jobs.{release, numberOfJob}
 use Rattle.kinds.specs.Plans.{Plan}
-use Rattle.laws.specs.Windows.{window-facts}
 use Rattle.judge.specs.declared.Lane.{Lane}
 use Rattle.kinds.specs.JobTicks.{Gets}
-use Rattle.laws.specs.JobTicks.{gets-none, gets-within, gets-again}
+use Rattle.laws.specs.JobTicks.{gets-none, gets-low, gets-again}
 use Rattle.judge.specs.JobTable.{RowGets}
 use Rattle.judge.specs.JobOfSlot.{Fit}
 use Rattle.judge.proofs.EachJobGets.{jobs-are, number-fits}
@@ -104,16 +102,10 @@ module _ {rows : List (List ℕ)} {l : Lane} (t : Tells rows l) where
     lane-none z = rw (offset-is, period-is) (gets-none (t .tasks) (t .plan) (t .task) k (row-is .none z))
 
   -- ---- its times are low
-  pub ask-times : {k c a b : ℕ} → k < l .jobs → Gets (t .tasks) (t .plan) (t .task) k c a b → (a ≤ 12000) × (b ≤ 12000)
-  unfolding release
-  ask-times {k} {c} {a} {b} lk g =
-      let w = gets-within (t .tasks) (t .plan) (t .task) k (f .some-deadline (t .task) (t .low)) g in
-      (low a (w .0), low b (w .1))
-    where
-      low : (x : ℕ) → inWindow (t .tasks) (t .task) k x ≡ true → x ≤ 12000
-      low x e =
-          let d : k * period (t .tasks) (t .task) + period (t .tasks) (t .task) ≤ 6000 = rw period-is at (room lk) in
-          omega (arith, window-facts (t .tasks) (t .task) k x e .1, d, f .offset-low (t .task) (t .low), f .deadline-low (t .task) (t .low))
+  pub ask-times : {k c a b : ℕ} → k < l .jobs → Gets (t .tasks) (t .plan) (t .task) k c a b → (a < 12000) × (b < 12000)
+  ask-times {k} lk g =
+      gets-low (t .tasks) (t .plan) (t .task) k (f .some-deadline (t .task) (t .low)) (f .deadline-low (t .task) (t .low)) (f .offset-low (t .task) (t .low))
+      (rw period-is at (room lk)) g
 
   -- ---- any job, from the one that it repeats
   put-off : (k : ℕ) → (k - k % l .jobs) * l .task .period ≡ k / jobsOf (t .tasks) (t .task) * t .plan .cycle

@@ -8,7 +8,7 @@ use native.Mathlib.Omega.{arith}
 use Rattle.vocabulary.specs.Test.{clash, fails, decide, lt-or-le}
 use Rattle.vocabulary.specs.Least.{least, least-is, some, some-yes, some-at, some-not, greatest, greatest-is, greatest-none}
 use Rattle.vocabulary.specs.Count.{count, count-same, count-none, count-pos}
-use Rattle.kinds.specs.Tasks.{Tasks, period, deadline}
+use Rattle.kinds.specs.Tasks.{Tasks, period, offset, deadline}
 use Rattle.kinds.specs.Cycle.{cycle, jobsOf}
 use Rattle.kinds.specs.Jobs.{release, inWindow}
 use Rattle.kinds.specs.Plans.{Plan, shown, runs, ticks, runsPast, firstTick, lastTick}
@@ -16,7 +16,7 @@ use Rattle.kinds.specs.Valid.{TickOf}
 use Rattle.kinds.specs.JobTicks.{Gets}
 use Rattle.laws.specs.Repeat.{shown-again, runs-shown, release-later, ticks-shift}
 use Rattle.laws.specs.Window.{tick-at, tick-is}
-use Rattle.laws.specs.Windows.{window-yes}
+use Rattle.laws.specs.Windows.{window-yes, window-facts}
 
 module _ (u : Tasks) (p : Plan) (i k : ℕ) where
   -- ==== Nothing else is what a job gets: two such triples are equal.
@@ -133,6 +133,14 @@ module _ (u : Tasks) (p : Plan) (i k : ℕ) where
       go : (c ≡ 0) ⊎ (0 < c) → (inWindow u i k a ≡ true) × (inWindow u i k b ≡ true)
       go (inl z) = let w = g .none z in (at-release (w .0), at-release (w .1))
       go (inr l) = (g .first l .within, g .last l .within)
+
+  -- So they are below 12,000 where the job's period ends within 6,000 ticks from the first release on, as that of every job of a cycle does.
+  pub gets-low : {c a b : ℕ} → 0 < deadline u i → deadline u i ≤ period u i → offset u i < period u i → k * period u i + period u i ≤ 6000
+      → Gets u p i k c a b → (a < 12000) × (b < 12000)
+  unfolding release
+  gets-low {c} {a} {b} some-deadline deadline-low offset-low room g =
+      let w = gets-within some-deadline g in
+      (omega (arith, window-facts u i k a (w .0) .1), omega (arith, window-facts u i k b (w .1) .1))
 
 -- ---- n cycles later
 module _ (u : Tasks) (p : Plan) (i k n : ℕ) (h : p .cycle ≡ cycle u) (d : period u i ∣ cycle u) where

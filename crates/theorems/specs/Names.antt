@@ -86,8 +86,8 @@ KeptBefore s slots n = (m : ℕ) → earlier (numbersOf (rules s slots)) m n ≡
 abbrev pub Nothing : Type 0
 Nothing = Unit {0}
 
--- ---- the rule that is broken, and that the evidence is its lowest (rule R7.6). 22 also shows what the job gets, which is how many ticks, and the first and the last
--- of them in true time, and 23 a k below H/p.
+-- ---- the rule that is broken, and that the evidence is its lowest (rule R7.6). 22 also shows what the job gets, which is how many ticks, and the first and
+-- the last of them in true time, and 23 a k below H/p.
 unfoldable pub Breach : Set → List ℕ → Verdict → Type 0
 Breach s slots verdict.BadSet = sound s ≡ false
 Breach s slots verdict.WrongLength = length slots ≡ s .processors * cycle (s .tasks) → ⊥

@@ -69,15 +69,14 @@ module _ (s t : Set) (g : Agree s t) where
       ∙ ap₂ (count (runs (t .tasks) p i)) (same-release i k l) (same-deadline i l)
 
   -- ---- where a job's ticks fall: whatever is made of its release, of when it runs past that, and of its deadline
-  same-past : (p : Plan) (i k : ℕ) → i < s .tasks .count → runsPast (s .tasks) p i k ≡ runsPast (t .tasks) p i k
-  same-past p i k l =
-      fun-ext (λ x. same-runs p i (release (s .tasks) i k + x) l ∙ ap (λ (r : ℕ). runs (t .tasks) p i (r + x)) (same-release i k l))
+  pub same-past : (p : Plan) (i k x : ℕ) → i < s .tasks .count → runsPast (s .tasks) p i k x ≡ runsPast (t .tasks) p i k x
+  same-past p i k x l = same-runs p i (release (s .tasks) i k + x) l ∙ ap (λ (r : ℕ). runs (t .tasks) p i (r + x)) (same-release i k l)
 
   same-made : (make : ℕ → (ℕ → Bool) → ℕ → ℕ) (p : Plan) (i k : ℕ) → i < s .tasks .count
       → make (release (s .tasks) i k) (runsPast (s .tasks) p i k) (deadline (s .tasks) i)
       ≡ make (release (t .tasks) i k) (runsPast (t .tasks) p i k) (deadline (t .tasks) i)
   same-made make p i k l =
-      ap₂ (make (release (s .tasks) i k)) (same-past p i k l) (same-deadline i l)
+      ap₂ (make (release (s .tasks) i k)) (fun-ext (λ x. same-past p i k x l)) (same-deadline i l)
       ∙ ap (λ (r : ℕ). make r (runsPast (t .tasks) p i k) (deadline (t .tasks) i)) (same-release i k l)
 
   pub same-first-tick : (p : Plan) (i k : ℕ) → i < s .tasks .count → firstTick (s .tasks) p i k ≡ firstTick (t .tasks) p i k

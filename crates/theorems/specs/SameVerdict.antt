@@ -15,7 +15,7 @@ use Rattle.kinds.specs.Tasks.{Tasks, Patterns, Set, period, offset, deadline, f
 use Rattle.kinds.specs.Cycle.{cycle, jobsOf}
 use Rattle.kinds.specs.Jobs.{release}
 use Rattle.kinds.specs.Links.{linkFrom, linkTo, repeats}
-use Rattle.kinds.specs.Plans.{Plan, planOf, slot, runs, ticks, firstTick, lastTick}
+use Rattle.kinds.specs.Plans.{Plan, planOf, slot, ticks, firstTick, lastTick}
 use Rattle.kinds.specs.Sound.{sound}
 use Rattle.kinds.proofs.SoundFacts.{Sound, sound-facts}
 use Rattle.kinds.proofs.WhatCounts.{Agree, cycle-agree, jobs-of-agree, sound-agree}
@@ -26,8 +26,9 @@ use Rattle.judge.specs.Rules.{strays, strayed, miscounts, miscounted, against, 
 use Rattle.judge.specs.Judgement.{highAt, outsideAt, wrongAt, brokenAt, planRules, rules, verdictOf}
 use Rattle.dispatcher.specs.declared.State.{State}
 use Rattle.dispatcher.specs.Refusals.{startedOf}
-use Rattle.theorems.specs.SameTasks.{first-same, same-period, same-running, same-offset, same-deadline, same-plan, same-release, same-runs}
-use Rattle.theorems.specs.SameTasks.{same-ticks, same-first-tick, same-last-tick, same-from, same-to, same-pairs, same-repeats, same-link-from, same-link-to}
+use Rattle.theorems.specs.SameTasks.{first-same, same-period, same-running, same-offset, same-deadline, same-plan, same-release, same-past}
+use Rattle.theorems.specs.SameTasks.{same-ticks, same-first-tick, same-last-tick, same-from, same-to, same-pairs, same-repeats}
+use Rattle.theorems.specs.SameTasks.{same-link-from, same-link-to}
 
 -- no slot of a plan is above n, also past its end
 low-slot : (p : Plan) (n : ℕ) → some (high (p .slots) n) (length (p .slots)) ≡ false → (c q : ℕ) → slot p c q ≤ n
@@ -115,17 +116,14 @@ module _ (s t : Set) (g : Agree s t) (f : Sound s) (p : Plan) where
       ∙ ap (λ (j : ℕ). fellAt w p j (least (miscounts w p j) (jobsOf w j))) a
 
   -- ---- 23
-  past-release : (i k x : ℕ) → i < u .count → runs u p i (release u i k + x) ≡ runs w p i (release w i k + x)
-  past-release i k x l = same-runs s t g p i (release u i k + x) l ∙ ap (λ (r : ℕ). runs w p i (r + x)) (same-release s t g i k l)
-
   same-against : (j l x y : ℕ) → j < u .count → against u p j l x y ≡ against w p j l x y
   unfolding against
-  same-against j l x y h = ap₂ _&&_ (past-release j l y h) (ap (λ (r : ℕ). leb (r + y) x) (same-release s t g j l h))
+  same-against j l x y h = ap₂ _&&_ (same-past s t g p j l y h) (ap (λ (r : ℕ). leb (r + y) x) (same-release s t g j l h))
 
   same-bars : (i k j l x : ℕ) → i < u .count → j < u .count → bars u p i k j l x ≡ bars w p i k j l x
   unfolding bars
   same-bars i k j l x hi hj =
-      ap₂ _&&_ (past-release i k x hi)
+      ap₂ _&&_ (same-past s t g p i k x hi)
       (some-same (against u p j l (release u i k + x)) (against w p j l (release u i k + x)) (deadline u j)
       (λ y h. same-against j l (release u i k + x) y hj)
       ∙ ap₂ (λ (r d : ℕ). some (against w p j l (r + x)) d) (same-release s t g i k hi) (same-deadline s t g j hj))

@@ -6,14 +6,13 @@ use Prim.Native.Nat.{ℕ, _<_}
 use native.Mathlib.Omega.{arith}
 use Rattle.vocabulary.specs.Test.{pick, took}
 use Rattle.vocabulary.specs.First.{firstOf, earlier, KeptBy}
-use Rattle.kinds.specs.Tasks.{Set, view}
+use Rattle.kinds.specs.Tasks.{Set, view, deadline}
 use Rattle.kinds.specs.Cycle.{jobsOf}
-use Rattle.kinds.specs.Jobs.{inWindow, due}
+use Rattle.kinds.specs.Jobs.{release, inWindow}
 use Rattle.kinds.specs.Plans.{planOf}
 use Rattle.kinds.specs.JobTicks.{Gets}
 use Rattle.kinds.proofs.SoundFacts.{Sound, sound-facts}
-use Rattle.laws.specs.JobTicks.{gets-within}
-use Rattle.laws.specs.Windows.{window-facts}
+use Rattle.laws.specs.JobTicks.{gets-within, gets-low}
 use Rattle.reader.specs.Files.{takenOf}
 use Rattle.judge.specs.declared.Verdict.the-variants as verdict
 use Rattle.judge.specs.Answers.{numberOf}
@@ -43,28 +42,20 @@ module _ (s : Set) (slots : List ℕ) {i k c a b : ℕ} (e : verdictOf s slots �
   unfolding Breach
   of-cycle = (named .broken .0 .first-low, named .broken .0 .second-low)
 
+  some-deadline : 0 < deadline (s .tasks) i
+  some-deadline = let l = of-cycle .0 in omega (arith, of-sound .some-running i l, of-sound .running-low i l)
+
   -- ==== Both lie in the window of the job,
   pub fell-within : (inWindow (s .tasks) i k a ≡ true) × (inWindow (s .tasks) i k b ≡ true)
-  fell-within =
-      let l = of-cycle .0 in
-      gets-within (s .tasks) (planOf s slots) i k (omega (arith, of-sound .some-running i l, of-sound .running-low i l)) ticks-fell
-
-  low : (x : ℕ) → inWindow (s .tasks) i k x ≡ true → x < 12000
-  unfolding due
-  low x w =
-      let l = of-cycle .0 in
-      omega (
-        arith,
-        window-facts (s .tasks) i k x w .1,
-        job-in-cycle s of-sound i k l (of-cycle .1) .ended,
-        of-sound .offset-low i l,
-        of-sound .low-period i l,
-        of-sound .low-cycle,
-      )
+  fell-within = gets-within (s .tasks) (planOf s slots) i k some-deadline ticks-fell
 
   -- ==== so that they may be past H, and are below 12,000.
   pub fell-low : (a < 12000) × (b < 12000)
-  fell-low = (low a (fell-within .0), low b (fell-within .1))
+  unfolding release
+  fell-low =
+      let l = of-cycle .0 in
+      gets-low (s .tasks) (planOf s slots) i k some-deadline (of-sound .deadline-low i l) (of-sound .offset-low i l)
+      (omega (arith, job-in-cycle s of-sound i k l (of-cycle .1) .next, of-sound .low-cycle)) ticks-fell
 
 -- ==== The same for the bytes that C passes; evidence of 32 bits shows both whole.
 pub fell-in-bytes : (tasks slots : List ℕ) {i k c a b : ℕ} → judgedOf tasks slots ≡ verdict.WrongCount i k c a b
