@@ -225,6 +225,7 @@ static void stacks(int argc, char **argv)
     if (stack == MAP_FAILED)
         return;
     largest(&file), deepen();
+    largest_onward(&file, 0), deepen();
     longest_file(&file), deepen();
     full(&file), deepen();
     for (k = 1; k < argc && k < 3; k++)
@@ -232,7 +233,7 @@ static void stacks(int argc, char **argv)
             deepen();
     seed = 20261115;
     for (k = 0; k < 300; k++) {
-        make(&file, 360, 1 + below(64), 0, 1 + below(64), k % 3 == 0);
+        make(&file, 360, 1 + below(64), 0, 1 + below(64), k % 3 == 0 ? ANY : KEPT);
         deepen();
     }
     printf("| call | archive | its evidence | plain C |\n|---|---:|---:|---:|\n");
@@ -247,6 +248,8 @@ int main(int argc, char **argv)
     printf("## Archive and plain C\n\n| input | call | archive | plain C | ratio |\n|---|---|---:|---:|---:|\n");
     largest(&file);
     rows("largest plan: 64 tasks, 8 processors, H 6,000, 2,048 jobs, 4,096 links");
+    largest_onward(&file, 0);
+    rows("largest plan of edition 2: as many, 217 links into the next cycle");
     if (argc > 1 && load(argv[1]))
         rows("flight software of source 003: 10 tasks, 1 processor, H 2,000");
     if (argc > 2 && load(argv[2]))

@@ -1,19 +1,48 @@
-/* The largest plan: 64 tasks, 8 processors, H 6,000, 2,048 jobs, 4,096 links, accepted. 45 tasks of period 200 run at the start of their periods, 15 of
-   period 150 from tick 90 of theirs on, so that a job of the first kind is over before the linked jobs of the second begin; 2 of period 250 and 2 of
-   period 240, which make the cycle 6,000, take the first free ticks. */
+/* The largest plans, one of each edition: 64 tasks, 8 processors, H 6,000, 2,048 jobs, 4,096 links, accepted. 45 tasks of period 200 run at the start of their
+   periods, 15 of period 150 from tick 90 of theirs on, so that a job of the first kind is over before the linked jobs of the second begin; 2 of period 250 and
+   2 of period 240, which make the cycle 6,000, take the first free ticks. */
 #ifndef LARGEST_H
 #define LARGEST_H
 #include "../tests/make.h"
 
 static uint32_t largest_period(uint32_t i) { return i < 45 ? 200 : i < 60 ? 150 : i < 62 ? 250 : 240; }
 
-static void largest(made *f)
+/* A head up to its pattern count. The 15 tasks of period 150 have the first release that is given. */
+static void largest_tasks(made *f, uint32_t edition, uint32_t offset, uint32_t patterns)
+{
+    uint32_t i;
+    f->length = 0;
+    put(f, edition);
+    put(f, 64);
+    put(f, 8);
+    for (i = 0; i < 64; i++) {
+        put(f, largest_period(i));
+        put(f, 5);
+        put(f, largest_period(i) == 150 ? offset : 0);
+        put(f, largest_period(i));
+    }
+    put(f, patterns);
+}
+
+static void put_pattern(made *f, uint32_t from, uint32_t to, uint32_t count, const uint8_t (*pair)[2])
+{
+    uint32_t k;
+    put(f, from);
+    put(f, to);
+    put(f, count);
+    for (k = 0; k < count; k++) {
+        put(f, pair[k][0]);
+        put(f, pair[k][1]);
+    }
+}
+
+/* The slots, behind a head that is put. */
+static void largest_slots(made *f)
 {
     enum { H = 6000, M = 8, N = 64, C = 5 };
-    static uint8_t slots[M * H];
-    uint32_t i, j, k, x, q, patterns = 0;
-    size_t count_at;
-    memset(slots, 0, sizeof slots);
+    uint8_t *slots = f->bytes + f->length;
+    uint32_t i, k, x, q;
+    memset(slots, 0, M * H);
     for (i = 0; i < N; i++)
         for (k = 0; k < H / largest_period(i); k++) {
             uint32_t t = largest_period(i), from = k * t, got = 0;
@@ -30,46 +59,43 @@ static void largest(made *f)
                 got++;
             }
         }
-    f->length = 0;
-    put(f, 1);
-    put(f, N);
-    put(f, M);
-    for (i = 0; i < N; i++) {
-        put(f, largest_period(i));
-        put(f, C);
-        put(f, 0);
-        put(f, largest_period(i));
-    }
-    count_at = f->length;
-    put(f, 0);
-    /* 51 patterns of 8 pairs, 10 links each, and one of 2 pairs, 8 links each */
-    for (i = 0; i < 45 && patterns < 51; i++)
-        for (j = 45; j < 47 && patterns < 51; j++) {
-            static const uint8_t pair[8][2] = {{0, 0}, {0, 1}, {0, 2}, {0, 3}, {1, 1}, {1, 2}, {1, 3}, {2, 3}};
-            put(f, i);
-            put(f, j);
-            put(f, 8);
-            for (k = 0; k < 8; k++) {
-                put(f, pair[k][0]);
-                put(f, pair[k][1]);
-            }
-            patterns++;
-        }
-    put(f, 45);
-    put(f, 60);
-    put(f, 2);
-    put(f, 0);
-    put(f, 1);
-    put(f, 0);
-    put(f, 2);
-    f->bytes[count_at] = (uint8_t)(patterns + 1);
     f->tasks = f->length;
-    memcpy(f->bytes + f->length, slots, sizeof slots);
-    f->length += sizeof slots;
+    f->length += M * H;
     f->processors = M;
     f->cycle = H;
     f->count = N;
     f->jobs = 2048;
+}
+
+/* 51 patterns of 8 pairs, 10 links each, and one of 2 pairs, 8 links each. */
+static void largest(made *f)
+{
+    static const uint8_t pair[8][2] = {{0, 0}, {0, 1}, {0, 2}, {0, 3}, {1, 1}, {1, 2}, {1, 3}, {2, 3}}, other[2][2] = {{0, 1}, {0, 2}};
+    uint32_t x;
+    largest_tasks(f, 1, 0, 52);
+    for (x = 0; x < 51; x++)
+        put_pattern(f, x / 2, 45 + x % 2, 8, pair);
+    put_pattern(f, 45, 60, 2, other);
+    largest_slots(f);
+}
+
+/* Edition 2: 48 patterns of 8 pairs and, from task 45 back to a later job of a task that it waits for, 12 of 2 pairs, 10 links each; one of 2 pairs, 8 links
+   each; and one link too many where it is asked for. 217 of the 4,096 links lead into the next cycle. The tasks of period 150 wake at tick 80, so that their
+   last jobs could run on in the next cycle and break such a link. */
+static void largest_onward(made *f, int too_many)
+{
+    static const uint8_t pair[8][2] = {{0, 0}, {0, 3}, {0, 4}, {1, 1}, {1, 5}, {2, 3}, {2, 4}, {2, 7}}, back[2][2] = {{2, 3}, {3, 3}};
+    static const uint8_t other[2][2] = {{0, 1}, {4, 3}}, single[1][2] = {{0, 49}};
+    uint32_t x;
+    largest_tasks(f, 2, 80, too_many ? 62 : 61);
+    for (x = 0; x < 48; x++)
+        put_pattern(f, x / 2, 45 + x % 2, 8, pair);
+    for (x = 0; x < 12; x++)
+        put_pattern(f, 45, x, 2, back);
+    put_pattern(f, 45, 60, 2, other);
+    if (too_many)
+        put_pattern(f, 60, 62, 1, single);
+    largest_slots(f);
 }
 
 /* Any slots for 64 tasks on 8 processors with a cycle of 6,000 ticks, behind a head that is put. */
@@ -114,14 +140,15 @@ static void longest_file(made *f)
     fill(f, 1568);
 }
 
-/* The longest file that we can make, of 51,783 bytes; that there is no longer one is argued here and not proved. A number of a pair has two bytes only where a
-   task has over 128 jobs until the two come together, and so a period below 47 and numbers of one byte; the other number has one byte then. Here it is task 0,
-   with 1,500 jobs; the others have one each. As many pair counts as can be, 7, have two bytes. */
-static void longest_of_all(made *f)
+/* The longest file that we can make, of 51,783 bytes in either edition; that there is no longer one is argued here and not proved. A number of a pair has two
+   bytes only where a task has over 128 jobs until the two come together, in edition 2 over 64, and so a period below 93 and numbers of one byte; the other
+   number has one byte then. Here it is task 0, with 1,500 jobs; the others have one each. As many pair counts as can be, 7, have two bytes. The
+   pairs that go back to task 0 have the highest numbers of the edition. */
+static void longest_of_all(made *f, uint32_t edition)
 {
     uint32_t i, k;
     f->length = 0;
-    put(f, 1);
+    put(f, edition);
     put(f, 64);
     put(f, 8);
     for (i = 0; i < 64; i++) {
@@ -138,7 +165,7 @@ static void longest_of_all(made *f)
         put(f, count);
         for (k = 0; k < count; k++) {
             put(f, back ? 0 : 1372 + k);
-            put(f, back ? 1372 + k : 0);
+            put(f, back ? edition * 1500 - 16 + k : 0);
         }
     }
     fill(f, 1563);

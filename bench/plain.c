@@ -69,7 +69,7 @@ static void take_head(cursor *c, plain_set *s)
 {
     uint32_t i, j, h = 1, used = 0, low_from = 0, low_to = 0;
     uint64_t links = 0;
-    s->edition = take(c, 1, 2, 3);
+    s->edition = take(c, 1, 3, 3);
     s->tasks = take(c, 1, 65, 4);
     s->processors = take(c, 1, 9, 4);
     for (i = 0; i < s->tasks && !c->refused.number; i++) {
@@ -107,7 +107,7 @@ static void take_head(cursor *c, plain_set *s)
             return;
         p = lcm(s->period[s->from[i]], s->period[s->to[i]]);
         limit_a = p / s->period[s->from[i]];
-        limit_b = p / s->period[s->to[i]];
+        limit_b = p / s->period[s->to[i]] * (s->edition == 1 ? 1 : 2); /* in edition 2 a link may lead into the next p ticks */
         for (j = 0; j < s->pairs[i] && !c->refused.number; j++) {
             uint32_t a = take(c, low_a, limit_a, 6), b = take(c, a == low_a ? low_b : 0, limit_b, 6);
             s->first[used + j] = (uint16_t)a;
@@ -212,7 +212,7 @@ plain_answer plain_write(const uint8_t *tasks, size_t tasks_len, const uint8_t *
     return say(0, (uint32_t)length, 0, 0);
 }
 
-/* ---- jobs and links of a cycle */
+/* ---- jobs of a cycle and the links between them: a link into the next cycle is none of these */
 typedef struct {
     uint32_t jobs, base[65];
     uint16_t task[2048];
@@ -233,12 +233,14 @@ static void lay(const plain_set *s, network *g)
     g->links = 0;
     for (i = 0; i < s->patterns; i++) {
         uint32_t p = lcm(s->period[s->from[i]], s->period[s->to[i]]);
-        for (j = 0; j < s->pairs[i]; j++, at++)
-            for (k = 0; k < s->cycle / p; k++) {
+        for (j = 0; j < s->pairs[i]; j++, at++) {
+            uint32_t inside = s->cycle / p - (s->second[at] >= p / s->period[s->to[i]]); /* a second number so high takes the last link out of the cycle */
+            for (k = 0; k < inside; k++) {
                 g->start[g->links] = (uint16_t)(g->base[s->from[i]] + s->first[at] + k * (p / s->period[s->from[i]]));
                 g->end[g->links] = (uint16_t)(g->base[s->to[i]] + s->second[at] + k * (p / s->period[s->to[i]]));
                 g->links++;
             }
+        }
     }
 }
 
@@ -403,12 +405,15 @@ static plain_answer judge_set(const plain_set *s, const uint8_t *plan, size_t pl
                 return count[x] ? say_ticks(i, k, count[x], first[x], last[x]) : say_ticks(i, k, 0, release, release);
             }
     for (i = 0; i < s->patterns; i++) {
-        uint32_t p = lcm(s->period[s->from[i]], s->period[s->to[i]]);
+        uint32_t from = s->from[i], to = s->to[i], p = lcm(s->period[from], s->period[to]), round = h / s->period[to];
         for (q = 0; q < s->pairs[i]; q++, pairs++)
-            for (k = 0; k < h / p; k++)
-                if (last[base[s->from[i]] + s->first[pairs] + k * (p / s->period[s->from[i]])]
-                    >= first[base[s->to[i]] + s->second[pairs] + k * (p / s->period[s->to[i]])])
+            for (k = 0; k < h / p; k++) {
+                uint32_t before = s->first[pairs] + k * (p / s->period[from]), after = s->second[pairs] + k * (p / s->period[to]);
+                /* a job past the cycle runs as the one a cycle earlier, h ticks later */
+                uint32_t begins = after < round ? first[base[to] + after] : first[base[to] + after - round] + h;
+                if (last[base[from] + before] >= begins)
                     return say(23, i, q, k);
+            }
     }
     return say(0, 0, 0, 0);
 }

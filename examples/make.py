@@ -9,6 +9,10 @@ example_5.plan   Example 5 of source document 000, simple precedences. Two proce
 example_6.plan   Example 6 of source document 000, precedences between jobs of different periods. Two processors, since it asks for 21 ticks in a cycle of 20;
                  the plan is ours. Its pair (3, 1) from task 0 to task 1 is outside the range of a pattern, a below p/T0 = 2, so that a file with it is
                  refused by 6. The file has (1, 0): from job 3 on both say the same, so that a repeated plan keeps both or neither.
+next_round.plan  A pump command that feeds the next round's brake job, of edition 2. Two processors, and two rounds of 8 ticks in a cycle of 16. In each round
+                 wheel speed (task 0) comes before the brake (1), and the brake before the pump command (2); by the pair (0, 1) the command comes before the
+                 brake of the next round, which after the second round is in the next cycle. So brake and command wait for each other, and no job waits for
+                 itself. The command's last tick is just before the brake's first; a tick later it would break 23. The display (3) makes the cycle two rounds.
 """
 import os
 
@@ -23,8 +27,8 @@ def number(x):
     return out + [x]
 
 
-def file(processors, tasks, patterns, slots):
-    numbers = [1, len(tasks), processors] + [x for t in tasks for x in t] + [len(patterns)]
+def file(processors, tasks, patterns, slots, edition=1):
+    numbers = [edition, len(tasks), processors] + [x for t in tasks for x in t] + [len(patterns)]
     for (a, b), pairs in sorted(patterns.items()):
         numbers += [a, b, len(pairs)] + [x for p in sorted(pairs) for x in p]
     return bytes(sum((number(x) for x in numbers), [])) + bytes(slots)
@@ -80,6 +84,13 @@ def example_6():
                 [slot for row in zip(one, two) for slot in row])
 
 
-for plan in (case_a, flight, example_2, example_5, example_6):
+def next_round():
+    one = [1, 1, 2, 2, 2, 0, 0, 0] * 2
+    two = [3, 3, 4, 4, 4, 4, 4, 3, 3, 3, 0, 0, 0, 0, 0, 3]
+    return file(2, [(8, 2, 0, 4), (8, 3, 0, 6), (8, 3, 5, 8), (16, 5, 0, 16)], {(0, 1): [(0, 0)], (1, 2): [(0, 0)], (2, 1): [(0, 1)]},
+                [slot for row in zip(one, two) for slot in row], edition=2)
+
+
+for plan in (case_a, flight, example_2, example_5, example_6, next_round):
     with open(os.path.join(HERE, plan.__name__ + '.plan'), 'wb') as f:
         f.write(plan())

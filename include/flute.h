@@ -33,11 +33,12 @@ extern "C" {
      0  read: evidence is the place of the first slot
      1  the file ends inside or before a number or slot that is needed: the file's length
      2  a number is not in its shortest form, or its third byte has the top bit: the number's first byte
-     3  the edition is unknown: 0
+     3  the edition is neither 1 nor 2: 0
      4  task count, m, an attribute of a task or the pattern count is outside the limits, or a pair count carries the total past 1,024: the number's
         first byte
      5  H is over 6,000, or there are over 2,048 jobs in a cycle: the place after the last task
-     6  a pattern or pair breaks range, order or difference, or a pair count is 0: the number's first byte
+     6  a pattern or pair breaks range, order or difference, or a pair count is 0: the number's first byte. The second number of a pair is below p/Tj in
+        edition 1 and below 2·p/Tj in edition 2, where a link may lead into the next round
      9  there are over 4,096 links in a cycle: the place after the last pattern
      7  a slot is above the task count: its place
      8  there are bytes after the last slot: the first of them
@@ -60,7 +61,7 @@ uint32_t flute_write_evidence(const uint8_t *tasks, size_t tasks_len, const uint
 
 /* Looks for reasons why these tasks can have no plan. Tested in this order:
     10  bad tasks
-    13  links make a cycle: the lowest job that lies on one
+    13  links between jobs of one cycle make a cycle: the lowest job that lies on one
     14  the jobs of a cycle ask for more ticks than m processors have: both numbers, asked first
     15  a job's adjusted release and its running time reach past its adjusted deadline: the lowest such job
      0  no finding
@@ -71,9 +72,9 @@ uint32_t flute_screen_evidence(const uint8_t *tasks, size_t tasks_len, uint32_t 
 /* Works out the adjusted release and the adjusted deadline of every job of a cycle, ordered by task, then job. Tested in this order:
     10  bad tasks
     11  either buffer has not exactly as many numbers as a cycle has jobs (H/T for each task, added up)
-    13  links make a cycle: the lowest job that lies on one
+    13  links between jobs of one cycle make a cycle: the lowest job that lies on one
      0  both buffers are written, each whole
-   The times are absolute; a deadline may be negative, and both may be past H. */
+   The times are absolute; a deadline may be negative, and both may be past H. A link that leads out of the cycle, into the next, changes no time. */
 uint32_t flute_adjust(const uint8_t *tasks, size_t tasks_len, int32_t *releases, size_t releases_len, int32_t *deadlines, size_t deadlines_len);
 uint32_t flute_adjust_evidence(const uint8_t *tasks, size_t tasks_len, const int32_t *releases, size_t releases_len, const int32_t *deadlines,
                                size_t deadlines_len, uint32_t which);
@@ -86,7 +87,7 @@ uint32_t flute_adjust_evidence(const uint8_t *tasks, size_t tasks_len, const int
     21  a slot lies outside its task's windows: tick, processor
     22  a job's ticks in its window are not its running time: task, job, how many ticks it gets, and the first and the last of them, in true time, so that
         they may be past H; for a job with no ticks its release for both
-    23  a link is broken: pattern, pair, and k, which repetition of the pair it is, below H/p
+    23  a link is broken, within the cycle or into the next: pattern, pair, and k, which repetition of the pair it is, below H/p
      0  accepted: every job always gets its running time inside its window, on one processor at a time, and every precedence is kept
    Nothing is written. */
 uint32_t flute_judge(const uint8_t *tasks, size_t tasks_len, const uint8_t *plan, size_t plan_len);

@@ -1,5 +1,6 @@
 /* The largest plans through the archive: accepted as they are, with one slot changed answered as plain C answers, their adjusted times those of plain C, and
-   three cycles of them played as plain C plays them. Each file, and the longest there is, is written back as it was. */
+   three cycles of them played as plain C plays them. Each file, and the longest there is, is written back as it was. What an edition allows is accepted up to
+   its limit, and one more is refused by every call. */
 #include "../bench/largest.h"
 #include "calls.h"
 #include <stdio.h>
@@ -75,14 +76,12 @@ static void write_back(const made *f, const char *what)
     write_into(f, FLUTE_LONGEST_FILE, what);
 }
 
-static void run(const made *f, const char *what)
+static void change_slots(const made *f, uint32_t changes, const char *what)
 {
     static uint8_t slots[48000];
-    size_t n = f->length - f->tasks, k;
+    size_t n = f->length - f->tasks;
     memcpy(slots, f->bytes + f->tasks, n);
-    write_back(f, what);
-    expect(call_judge(f->bytes, f->tasks, slots, n).number == 0, what);
-    for (k = 0; k < 2000; k++) {
+    while (changes--) {
         size_t at = below((uint32_t)n);
         uint8_t was = slots[at];
         slots[at] = (uint8_t)below(66);
@@ -90,8 +89,102 @@ static void run(const made *f, const char *what)
         slots[at] = was;
     }
     judge_both(f, slots, what);
+}
+
+static void accepted(const made *f, const char *what)
+{
+    const uint8_t *slots = f->bytes + f->tasks;
+    size_t n = f->length - f->tasks;
+    uint8_t state[FLUTE_STATE_BYTES];
+    plain_answer fine = {0, {0}};
+    write_back(f, what);
     adjust_both(f, what);
-    play_both(f, slots, what);
+    expect(agrees(call_screen(f->bytes, f->tasks), fine), what);
+    expect(agrees(call_judge(f->bytes, f->tasks, slots, n), fine), what);
+    expect(agrees(call_start(f->bytes, f->tasks, slots, n, state, sizeof state), fine), what);
+}
+
+static void run(const made *f, const char *what)
+{
+    accepted(f, what);
+    change_slots(f, 2000, what);
+    play_both(f, f->bytes + f->tasks, what);
+}
+
+/* A head that the reader refuses by a number at a place is bad tasks to every other call. */
+static void refused(const made *f, uint32_t number, size_t place, const char *what)
+{
+    static uint8_t out[FLUTE_LONGEST_FILE];
+    static int32_t releases[FLUTE_MOST_JOBS], deadlines[FLUTE_MOST_JOBS];
+    const uint8_t *slots = f->bytes + f->tasks;
+    size_t n = f->length - f->tasks;
+    uint8_t state[FLUTE_STATE_BYTES] = {0}, row[FLUTE_MOST_PROCESSORS];
+    plain_answer at = {number, {(uint32_t)place}}, bad = {10, {0}};
+    expect(agrees(call_read(f->bytes, f->length), at), what);
+    expect(agrees(call_write(f->bytes, f->tasks, slots, n, out, sizeof out), bad), what);
+    expect(agrees(call_screen(f->bytes, f->tasks), bad), what);
+    expect(agrees(call_adjust(f->bytes, f->tasks, releases, f->jobs, deadlines, f->jobs), bad), what);
+    expect(agrees(call_judge(f->bytes, f->tasks, slots, n), bad), what);
+    expect(agrees(call_start(f->bytes, f->tasks, slots, n, state, sizeof state), bad), what);
+    expect(agrees(call_step(f->bytes, f->tasks, slots, n, 0, state, sizeof state, row, f->processors), bad), what);
+}
+
+/* Two tasks with one job and 2,047 in a cycle, the most that there can be, and one pair from one to the other. The first runs in tick 1, the second in every
+   other tick from 0 on. */
+static void one_pair(made *f, uint32_t edition, uint32_t from, uint32_t a, uint32_t b)
+{
+    uint32_t head[] = {edition, 2, 1, 4094, 1, 0, 4094, 2, 1, 0, 2, 1, from, 1 - from, 1, a, b}, k;
+    f->length = 0;
+    for (k = 0; k < sizeof head / sizeof *head; k++)
+        put(f, head[k]);
+    f->tasks = f->length;
+    for (k = 0; k < 4094; k++)
+        f->bytes[f->length++] = (uint8_t)(k == 1 ? 1 : k % 2 ? 0 : 2);
+    f->processors = 1;
+    f->cycle = 4094;
+    f->count = 2;
+    f->jobs = 2048;
+}
+
+/* Numbers of a pair at the limits of the editions; a number at fault has two bytes, and the head ends with the second of the pair. */
+static void try_editions(made *f)
+{
+    one_pair(f, 1, 0, 0, 2046);
+    accepted(f, "the last job of the cycle, edition 1");
+    one_pair(f, 1, 0, 0, 2047);
+    refused(f, 6, f->tasks - 2, "a job of the next cycle, edition 1");
+    one_pair(f, 2, 0, 0, 2047);
+    accepted(f, "the first job of the next cycle, edition 2");
+    one_pair(f, 2, 0, 0, 4093);
+    accepted(f, "the last job of the next cycle, edition 2");
+    one_pair(f, 2, 0, 0, 4094);
+    refused(f, 6, f->tasks - 2, "a job of the next cycle but one, edition 2");
+    one_pair(f, 2, 1, 2046, 1);
+    accepted(f, "from the last job of the cycle into the next, edition 2");
+    one_pair(f, 2, 1, 2047, 1);
+    refused(f, 6, f->tasks - 3, "from a job of the next cycle, edition 2");
+    one_pair(f, 0, 0, 0, 1);
+    refused(f, 3, 0, "edition 0");
+    one_pair(f, 3, 0, 0, 1);
+    refused(f, 3, 0, "edition 3");
+}
+
+/* The last tick of task 45's last job goes from tick 5,944 to 6,040, in the next cycle and still in its window. By then task 0 has begun the job that waits for
+   it by the second of the pairs from 45 to 0. */
+static void break_onward(const made *f)
+{
+    static uint8_t slots[48000];
+    plain_answer broken = {23, {48, 1, 9}};
+    size_t n = f->length - f->tasks, from = 5944 * 8, to = 40 * 8;
+    memcpy(slots, f->bytes + f->tasks, n);
+    while (from < 5945 * 8 && slots[from] != 46)
+        from++;
+    while (to < 41 * 8 && slots[to])
+        to++;
+    expect(from < 5945 * 8 && to < 41 * 8, "a tick of task 45, and an idle one");
+    slots[from] = 0;
+    slots[to] = 46;
+    expect(agrees(call_judge(f->bytes, f->tasks, slots, n), broken), "a broken link into the next cycle");
 }
 
 int main(void)
@@ -100,12 +193,21 @@ int main(void)
     seed = 20261115;
     largest(&f);
     run(&f, "largest plan");
+    largest_onward(&f, 0);
+    accepted(&f, "largest plan of edition 2");
+    change_slots(&f, 200, "largest plan of edition 2");
+    break_onward(&f);
+    largest_onward(&f, 1);
+    refused(&f, 9, f.tasks, "a link too many");
     full(&f);
     run(&f, "every slot in use");
     longest_file(&f);
     write_back(&f, "most pairs");
-    longest_of_all(&f);
+    longest_of_all(&f, 1);
     write_back(&f, "longest file");
+    longest_of_all(&f, 2);
+    write_back(&f, "longest file of edition 2");
+    try_editions(&f);
     printf("%d passed, %d failed\n", passed, failed);
     return failed != 0;
 }

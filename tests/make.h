@@ -8,6 +8,7 @@ typedef struct {
     uint8_t bytes[60000];
     size_t length, tasks; /* the whole file, and how much of it is before the first slot */
     uint32_t processors, cycle, count, jobs;
+    uint32_t onward; /* how many pairs lead into the next p ticks, which only edition 2 has */
 } made;
 
 static uint64_t seed;
@@ -34,16 +35,47 @@ static inline void put(made *f, uint32_t x)
 static inline uint32_t gcd_of(uint32_t a, uint32_t b) { return b ? gcd_of(b, a % b) : a; }
 
 typedef struct {
-    uint32_t t, c, o, d, base;
+    uint32_t t, c, o, d;
+    uint32_t *first, *last; /* of each job's ticks in one cycle */
 } made_task;
 
-/* A set of at most `most` tasks over a cycle that divides `top`, its plan laid out job by job in the first free ticks of each window, and links
-   between jobs of which the first is over before the second begins. With `bad` links are taken as they come. */
-static void make(made *f, uint32_t top, uint32_t most, uint32_t processors, uint32_t most_pairs, int bad)
+/* The pairs of a set: those that its plan keeps, any, or those that it breaks in the link into the next cycle and in no other, with a few that it keeps. */
+enum { KEPT, ANY, BROKEN_ONWARD };
+
+/* The lowest link of a pair that the plan breaks, or how many there are. A job past the cycle of h ticks runs as the one a cycle earlier, h later. */
+static uint32_t lowest_broken(const made_task *from, const made_task *to, uint32_t a, uint32_t b, uint32_t p, uint32_t h)
+{
+    uint32_t k, per = h / to->t;
+    for (k = 0; k < h / p; k++) {
+        uint32_t job = b + k * (p / to->t), begins = job < per ? to->first[job] : to->first[job - per] + h;
+        if (from->last[a + k * (p / from->t)] >= begins)
+            break;
+    }
+    return k;
+}
+
+/* Whether a pair is of the kind, and chance takes it: such as break onward are rare, and are all taken. */
+static int takes(const made_task *from, const made_task *to, uint32_t a, uint32_t b, uint32_t p, uint32_t h, int which)
+{
+    uint32_t k;
+    if (which != BROKEN_ONWARD && below(3))
+        return 0;
+    if (which == ANY)
+        return 1;
+    k = lowest_broken(from, to, a, b, p, h);
+    if (k == h / p)
+        return which == KEPT || below(12) == 0;
+    return which == BROKEN_ONWARD && b + k * (p / to->t) >= h / to->t;
+}
+
+/* A set of at most `most` tasks over a cycle that divides `top`, its plan laid out job by job in the first free ticks of each window, and pairs of the kind
+   that is asked for. It is of edition 2 where that kind needs it, else of either. */
+static void make(made *f, uint32_t top, uint32_t most, uint32_t processors, uint32_t most_pairs, int which)
 {
     static uint8_t slots[8 * 6000];
     static uint32_t first[2048], last[2048];
     static made_task task[64];
+    uint32_t edition = which == BROKEN_ONWARD || below(3) == 0 ? 2 : 1;
     uint32_t n = 1 + below(most), m = processors ? processors : 1 + below(8), h = 1, jobs = 0, i, j, k, pairs = 0, patterns = 0, at, links = 0;
     size_t count_at;
     for (i = 0; i < n; i++) {
@@ -55,7 +87,7 @@ static void make(made *f, uint32_t top, uint32_t most, uint32_t processors, uint
         if (t->c > t->t)
             t->c = t->t;
         t->d = below(2) ? t->t : t->c + below(t->t - t->c + 1);
-        t->o = below(2) ? 0 : below(t->t);
+        t->o = below(2) ? 0 : which != BROKEN_ONWARD && below(2) ? below(t->t) : t->t - 1 - below(t->c); /* with the last a job often ends past the cycle */
         h = h / gcd_of(h, t->t) * t->t;
     }
     memset(slots, 0, (size_t)m * h);
@@ -66,7 +98,8 @@ static void make(made *f, uint32_t top, uint32_t most, uint32_t processors, uint
             n = i;
             break;
         }
-        t->base = jobs;
+        t->first = first + jobs;
+        t->last = last + jobs;
         jobs += per;
         for (k = 0; k < per; k++) {
             uint32_t got = 0, x, q;
@@ -78,21 +111,22 @@ static void make(made *f, uint32_t top, uint32_t most, uint32_t processors, uint
                     continue;
                 slots[tick * m + q] = (uint8_t)(i + 1);
                 if (!got++)
-                    first[t->base + k] = time;
-                last[t->base + k] = time;
+                    t->first[k] = time;
+                t->last[k] = time;
             }
             if (got < t->c && got) /* the task wanted more than was free: it asks for less */
                 t->c = got, k = per;
             else if (!got)
-                first[t->base + k] = last[t->base + k] = 0;
+                t->first[k] = t->last[k] = 0;
         }
     }
     if (!n)
-        n = 1, task[0].base = 0;
+        n = 1, task[0].first = first, task[0].last = last;
     for (i = 0, h = 1; i < n; i++)
         h = h / gcd_of(h, task[i].t) * task[i].t;
     f->length = 0;
-    put(f, 1);
+    f->onward = 0;
+    put(f, edition);
     put(f, n);
     put(f, m);
     for (i = 0; i < n; i++) {
@@ -110,14 +144,11 @@ static void make(made *f, uint32_t top, uint32_t most, uint32_t processors, uint
             if (i == j || p > h || below(n) > 2 || pairs >= most_pairs)
                 continue;
             for (a = 0; a < p / task[i].t; a++)
-                for (b = 0; b < p / task[j].t; b++) {
-                    int good = 1;
-                    if (pairs + found >= most_pairs || links + (found + 1) * (h / p) > 4096 || below(3))
+                for (b = 0; b < edition * (p / task[j].t); b++) {
+                    if (pairs + found >= most_pairs || links + (found + 1) * (h / p) > 4096 || !takes(&task[i], &task[j], a, b, p, h, which))
                         continue;
-                    for (k = 0; k < h / p && good && !bad; k++)
-                        good = last[task[i].base + a + k * (p / task[i].t)] < first[task[j].base + b + k * (p / task[j].t)];
-                    if (good)
-                        xs[found] = a, ys[found] = b, found++;
+                    xs[found] = a, ys[found] = b, found++;
+                    f->onward += b >= p / task[j].t;
                 }
             if (!found)
                 continue;

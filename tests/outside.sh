@@ -66,7 +66,7 @@ ends() {
 
 # The peer first: plain C answers every vector, so that the random cases compare with something that is right.
 # A file of vectors is named by its kind, behind the number of a request where it came with one.
-vectors=(reader 102-judge screen adjusted step 101-write)
+vectors=(103-reader 102-judge 103-judge screen 103-screen adjusted 103-adjusted step 103-step 101-write 103-write)
 for name in "${vectors[@]}"; do
     count "plain C, $name" $run "$out/vectors_plain" "${name#*-}" "tests/vectors/$name.txt"
 done
@@ -85,6 +85,13 @@ done
 # A refusal shows its number and evidence, of 22 all five.
 stored 'the example on case E' <(echo 'flute_judge refuses by 22, evidence 0 2 4 20 23') $run "$out/executive" tests/runs/flute_judge/case_e.in
 echo "example executive: $same passed, $other failed"
+
+# The charts that stand beside the examples.
+same=0 other=0
+for chart in examples/*.chart; do
+    stored "the chart of ${chart%.chart}" "$chart" $run_kit target/bin/flute_show "${chart%.chart}.plan"
+done
+echo "charts of examples: $same passed, $other failed"
 
 # Stored runs of the programs: tests/runs/PROGRAM/NAME.in is what it reads, NAME.out what it prints; NAME.reports, where it is there, a second file.
 same=0 other=0

@@ -46,26 +46,49 @@ enum { NONE, ONE, TOO_FEW, TOO_MANY, FIRST_PAST, LAST_PAST, FALLS };
 static const char *falls[FALLS] = {"no tick", "one tick", "too few", "too many", "the first past H", "the last past H"};
 static unsigned long fell[FALLS], miscounts;
 
-/* After 22 tasks and plan are the parts of a file, from which C and H are read. */
-static void tally(plain_answer b, const uint8_t *tasks, size_t tasks_len, const uint8_t *plan, size_t plan_len)
+static void tally_ticks(const plain_set *s, const uint32_t *evidence)
 {
-    static uint8_t file[60008];
-    static plain_set s;
-    uint32_t ticks = b.evidence[2], asked;
-    if (b.number != 22)
-        return;
-    memcpy(file, tasks, tasks_len);
-    memcpy(file + tasks_len, plan, plan_len);
-    if (plain_read(file, tasks_len + plan_len, &s).number)
-        return;
-    asked = s.running[b.evidence[0]];
+    uint32_t ticks = evidence[2], asked = s->running[evidence[0]];
     miscounts++;
     fell[NONE] += ticks == 0;
     fell[ONE] += ticks == 1;
     fell[TOO_FEW] += ticks < asked;
     fell[TOO_MANY] += ticks > asked;
-    fell[FIRST_PAST] += b.evidence[3] >= s.cycle;
-    fell[LAST_PAST] += b.evidence[4] >= s.cycle;
+    fell[FIRST_PAST] += evidence[3] >= s->cycle;
+    fell[LAST_PAST] += evidence[4] >= s->cycle;
+}
+
+/* Accepted plans that have a link into the next cycle, and refused ones of which the broken link is one. */
+static unsigned long onward_kept, onward_broken;
+
+static void tally_links(const plain_set *s, plain_answer b)
+{
+    uint32_t i, j, at = 0, found = 0;
+    for (i = 0; i < s->patterns; i++) {
+        uint32_t from = s->period[s->from[i]], to = s->period[s->to[i]], turn = from / gcd_of(from, to), last = s->cycle / (turn * to) - 1;
+        for (j = 0; j < s->pairs[i]; j++, at++)
+            if (s->second[at] >= turn) /* then link `last` of the pair leads into the next cycle, and no other */
+                found |= !b.number || (b.evidence[0] == i && b.evidence[1] == j && b.evidence[2] == last);
+    }
+    if (found)
+        ++*(b.number ? &onward_broken : &onward_kept);
+}
+
+/* Where a plan was judged, tasks and plan are the parts of a file, from which the set is read. */
+static void tally(plain_answer b, const uint8_t *tasks, size_t tasks_len, const uint8_t *plan, size_t plan_len)
+{
+    static uint8_t file[60008];
+    static plain_set s;
+    if (b.number != 0 && b.number != 22 && b.number != 23)
+        return;
+    memcpy(file, tasks, tasks_len);
+    memcpy(file + tasks_len, plan, plan_len);
+    if (plain_read(file, tasks_len + plan_len, &s).number)
+        return;
+    if (b.number == 22)
+        tally_ticks(&s, b.evidence);
+    else
+        tally_links(&s, b);
 }
 
 static void equal(const char *what, const void *a, const void *b, size_t n)
@@ -116,20 +139,28 @@ static size_t damage(uint8_t *bytes, size_t n)
     return n;
 }
 
+static unsigned long read_as[3]; /* how often a file of each edition was read */
+
 static answer try_read(const uint8_t *file, size_t n)
 {
     static plain_set s;
+    plain_answer b = plain_read(file, n, &s);
     answer a;
     lent_count = 0;
     a = call_read(lend(file, n, coin(), 0), n);
-    compare(READ, a, plain_read(file, n, &s));
+    compare(READ, a, b);
+    if (!b.number)
+        read_as[s.edition]++;
     return a;
 }
 
-static void try_screen(const uint8_t *tasks, size_t tasks_len)
+static answer try_screen(const uint8_t *tasks, size_t tasks_len)
 {
+    answer a;
     lent_count = 0;
-    compare(SCREEN, call_screen(lend(tasks, tasks_len, coin(), 0), tasks_len), plain_screen(tasks, tasks_len));
+    a = call_screen(lend(tasks, tasks_len, coin(), 0), tasks_len);
+    compare(SCREEN, a, plain_screen(tasks, tasks_len));
+    return a;
 }
 
 static void try_judge(const uint8_t *tasks, size_t tasks_len, const uint8_t *plan, size_t plan_len)
@@ -280,13 +311,15 @@ static void try_write(const uint8_t *tasks, size_t tasks_len, const uint8_t *pla
 }
 
 /* A set at the limits of jobs, cycle and links: n tasks of one period in turn and one that runs once, 256 jobs of each in a cycle, and links of the first
-   jobs of two tasks. 8 tasks are a job too many, a period of 24 makes the cycle too long, and 17 patterns are 256 links too many. */
+   jobs of two tasks, which in edition 2 may lead on to the second job, and do so from a task to one before it. 8 tasks are a job too many, a period of 24 makes
+   the cycle too long, and 17 patterns are 256 links too many. */
 static void make_crowded(made *f)
 {
-    uint32_t n = 6 + below(3), t = below(6) ? 8 + below(3) : 24, patterns = 14 + below(5), i, j, x;
+    uint32_t n = 6 + below(3), t = below(6) ? 8 + below(3) : 24, patterns = 14 + below(5), edition = 1 + below(2), i, j, x;
     size_t count_at;
     f->length = 0;
-    put(f, 1);
+    f->onward = 0;
+    put(f, edition);
     put(f, n + 1);
     put(f, 1);
     for (i = 0; i <= n; i++) {
@@ -298,12 +331,17 @@ static void make_crowded(made *f)
     count_at = f->length;
     put(f, 0);
     for (i = 0, x = 0; i < n; i++)
-        for (j = i + 1; j < n && x < patterns; j++, x++) {
+        for (j = edition == 1 ? i + 1 : 0; j < n && x < patterns; j++) {
+            uint32_t onward = j < i || (edition == 2 && coin());
+            if (j == i)
+                continue;
             put(f, i);
             put(f, j);
             put(f, 1);
             put(f, 0);
-            put(f, 0);
+            put(f, onward);
+            f->onward += onward;
+            x++;
         }
     f->bytes[count_at] = (uint8_t)x;
     f->tasks = f->length;
@@ -322,6 +360,28 @@ static uint32_t used_slot(const uint8_t *plan, uint32_t n)
     for (k = 0; k < n && !plan[at]; k++)
         at = (at + 1) % n;
     return at;
+}
+
+/* A file that is read, under any edition up to 3. Edition 2 takes whatever edition 1 does, edition 1 no pair that leads onward, and there is no other. */
+static void try_edition(const made *f, uint8_t edition)
+{
+    static uint8_t file[60008];
+    static plain_set s;
+    const uint8_t *plan = file + f->tasks;
+    size_t plan_len = f->length - f->tasks;
+    uint32_t right = edition == 0 || edition == 3 ? 3 : edition == 1 && f->onward ? 6 : 0;
+    if (plain_read(f->bytes, f->length, &s).number)
+        return;
+    memcpy(file, f->bytes, f->length);
+    file[0] = edition;
+    if (try_read(file, f->length).number != right)
+        trouble("read", "takes an edition for another");
+    if ((try_screen(file, f->tasks).number == 10) != (right != 0))
+        trouble("screen", "takes an edition for another");
+    try_judge(file, f->tasks, plan, plan_len);
+    try_adjust(file, f->tasks, f->jobs);
+    try_write_into(file, f->tasks, plan, plan_len, f->length);
+    try_run(file, f->tasks, plan, plan_len, f);
 }
 
 static void try_all(const made *f)
@@ -359,7 +419,7 @@ static void try_all(const made *f)
     try_run(tasks, tasks_len, plan, plan_len, f);
 }
 
-/* How often each number was met, a line a call, and of the judge's 22 how often each kind of job. */
+/* How often each number was met, a line a call, of the judge's 22 how often each kind of job, and how often each edition and links into the next cycle. */
 static void tell(void)
 {
     int k, n;
@@ -377,12 +437,14 @@ static void tell(void)
     printf("wrong counts of the judge, %lu calls:", miscounts);
     for (k = 0; k < FALLS; k++)
         printf("%s %s in %lu", k ? "," : "", falls[k], fell[k]);
-    printf("\n");
+    printf("\nfiles that were read: %lu of edition 1, %lu of edition 2\n", read_as[1], read_as[2]);
+    printf("plans with a link into the next cycle: accepted %lu, refused for such a link %lu\n", onward_kept, onward_broken);
 }
 
 int main(int argc, char **argv)
 {
     static const uint32_t tops[] = {1, 2, 4, 6, 12, 24, 30, 60, 120, 360};
+    static const int choices[] = {KEPT, KEPT, BROKEN_ONWARD, ANY};
     static made f;
     unsigned long most = argc > 1 ? strtoul(argv[1], NULL, 0) : 50000;
     seed = argc > 2 ? strtoull(argv[2], NULL, 0) : 20261115;
@@ -393,8 +455,10 @@ int main(int argc, char **argv)
         if (below(100) == 0)
             make_crowded(&f);
         else
-            make(&f, tops[below(10)], 1 + below(below(8) ? 6 : 64), 0, below(4) ? 1 + below(12) : 0, below(4) == 0);
+            make(&f, tops[below(10)], 1 + below(below(8) ? 6 : 64), 0, below(4) ? 1 + below(12) : 0, choices[below(4)]);
         try_all(&f);
+        if (below(4) == 0)
+            try_edition(&f, (uint8_t)below(4));
     }
     tell();
     printf("%lu passed, %lu failed\n", cases - (wrong < cases ? wrong : cases), wrong);

@@ -12,6 +12,7 @@ use Rattle.vocabulary.specs.Table.{table}
 use Rattle.vocabulary.specs.Bits.{has, pack}
 use Rattle.vocabulary.specs.Multiple.{lcm, lcmOf}
 use Rattle.kinds.specs.Limits.{holds, rises}
+use Rattle.kinds.specs.Editions.{editionOf}
 use Rattle.kinds.specs.Tasks.{Set, pairsIn}
 use Rattle.kinds.specs.Cycle.{cycle, jobsOf, jobsBefore, jobs, cycleFits}
 use Rattle.kinds.specs.Jobs.{release}
@@ -64,6 +65,10 @@ twoHead = set smallHead 2 2
 lateHead : List ℕ
 lateHead = set smallHead 9 2
 
+-- edition 2: a job of task 1, released late, before task 0's job of the next round
+nextHead : List ℕ
+nextHead = 2 ∷ 2 ∷ 1 ∷ 4 ∷ 1 ∷ 0 ∷ 4 ∷ 4 ∷ 1 ∷ 3 ∷ 4 ∷ 1 ∷ 1 ∷ 0 ∷ 1 ∷ 0 ∷ 1 ∷ []
+
 -- 64 tasks on eight processors, task 63 last
 mostHead : List ℕ
 mostHead = 1 ∷ 64 ∷ 8 ∷ (taskNumbers (replicate 64 (8, 1, 0, 8)) ++ (0 ∷ []))
@@ -104,6 +109,14 @@ dispatcherCases =
     ∷ (ask.startingHead smallHead (1 ∷ 2 ∷ 1 ∷ 1 ∷ []) other, leaves (22 ∷ 0 ∷ 1 ∷ 2 ∷ 2 ∷ 3 ∷ []) other [])
     ∷ (ask.startingHead smallHead (2 ∷ 1 ∷ 1 ∷ 0 ∷ []) other, leaves (23 ∷ 0 ∷ 0 ∷ 0 ∷ []) other [])
     ∷ (ask.starting smallSet (0 ∷ 2 ∷ 1 ∷ 0 ∷ []) (state 3 false 1 2), leaves (22 ∷ 0 ∷ 0 ∷ 0 ∷ 0 ∷ 0 ∷ []) (stateBytes 3 0 1 2) [])
+    -- Edition 2 starts and steps as edition 1 does, a link into the next round is tested with the others, and edition 3 is not known.
+    ∷ (ask.startingHead nextHead (2 ∷ 1 ∷ 0 ∷ 0 ∷ []) other, leaves (0 ∷ []) fresh [])
+    ∷ (ask.startingHead nextHead (1 ∷ 2 ∷ 0 ∷ 0 ∷ []) other, leaves (23 ∷ 0 ∷ 0 ∷ 0 ∷ []) other [])
+    ∷ (ask.startingHead (set nextHead 0 1) (2 ∷ 1 ∷ 0 ∷ 0 ∷ []) other, leaves (10 ∷ []) other [])
+    ∷ (ask.startingHead (set nextHead 0 3) (2 ∷ 1 ∷ 0 ∷ 0 ∷ []) other, leaves (10 ∷ []) other [])
+    ∷ (ask.steppingHead nextHead (2 ∷ 1 ∷ 0 ∷ 0 ∷ []) 0 (stateBytes 0 0 0 0) (9 ∷ []), leaves (0 ∷ []) (stateBytes 1 0 0 2) (2 ∷ []))
+    ∷ (ask.steppingHead nextHead (2 ∷ 1 ∷ 0 ∷ 0 ∷ []) 2 (stateBytes 1 0 0 2) (9 ∷ []), leaves (0 ∷ []) (stateBytes 2 0 2 1) (1 ∷ []))
+    ∷ (ask.steppingHead (set nextHead 0 3) (2 ∷ 1 ∷ 0 ∷ 0 ∷ []) 0 fresh (9 ∷ []), leaves (10 ∷ []) fresh (9 ∷ []))
     -- A step shows the tick's slot, marks who ran, and goes on by a tick.
     ∷ (ask.steppingHead smallHead smallSlots 0 fresh (9 ∷ []), leaves (0 ∷ []) (stateBytes 1 1 0 1) (1 ∷ []))
     -- A report of a task that ran is heard; the mark stays until the task's next release.
@@ -183,9 +196,9 @@ dispatcherCases =
 
 -- ==== The dispatcher's definitions answer each of them so.
 pub dispatcher-cases : Answered dispatcherCases
-unfolding dispatcherCases state fresh stateBytes other smallSet twoHead lateHead mostHead mostSlots longSet longSlots fullSet fullSlots small smallHead
+unfolding dispatcherCases state fresh stateBytes other smallSet twoHead lateHead nextHead mostHead mostSlots longSet longSlots fullSet fullSlots small smallHead
     smallSlots reply taskNumbers rawHeadings rawPairs lentSet silence reportAfter least greatest all firstOf count total table has pack lcm lcmOf holds rises
-    pairsIn cycle jobsOf jobsBefore jobs cycleFits release common linkFrom linkTo repeats linksOf links spansOf linksIn attributesFit taskFits pairKey
+    pairsIn cycle jobsOf jobsBefore jobs cycleFits release common linkFrom linkTo repeats linksOf links editionOf spansOf linksIn attributesFit taskFits pairKey
     pairFits patternKey headingFits patternFits openingFits sound slot shows shown awake runs ticks firstTick lastTick numberAt held gotAt andThen timesFrom taskFrom onTask tasksFrom
     twoAt onTwo pairsFrom countFrom headingAt onHeading onPairs patternFrom onPattern patternsFrom openingOf middleFrom onOpening onTasks onMiddle onPatterns headFrom
     takeHead takenOf high twin mated clashes strays strayed miscounts miscounted against bars broken breaks brokenPair brokenPattern highAt twiceAt

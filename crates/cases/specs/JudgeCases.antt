@@ -10,6 +10,7 @@ use Rattle.vocabulary.specs.Total.{total}
 use Rattle.vocabulary.specs.Table.{table, gather}
 use Rattle.vocabulary.specs.Multiple.{lcm, lcmOf}
 use Rattle.kinds.specs.Limits.{holds, rises}
+use Rattle.kinds.specs.Editions.{editionOf}
 use Rattle.kinds.specs.Tasks.{Set, pairsIn}
 use Rattle.kinds.specs.Cycle.{cycle, jobsOf, jobsBefore, jobs, cycleFits}
 use Rattle.kinds.specs.Jobs.{release}
@@ -25,7 +26,7 @@ use Rattle.judge.specs.Rules.{twin, mated, clashes, strays, strayed, miscounts,
 use Rattle.judge.specs.Judgement.{highAt, twiceAt, outsideAt, wrongAt, brokenAt, planRules, rules, verdictOf}
 use Rattle.judge.specs.Heads.{judgedOf}
 use Rattle.cases.specs.Samples.{small, smallHead, smallSlots}
-use Rattle.cases.specs.Questions.{Row, Answered, says, at, gets, reply, taskNumbers, rawHeadings, rawPairs, lentSet}
+use Rattle.cases.specs.Questions.{Row, Answered, TaskRow, says, at, gets, reply, taskNumbers, rawHeadings, rawPairs, lentSet}
 use Rattle.cases.specs.Questions as ask
 
 -- ---- sets
@@ -74,17 +75,26 @@ linkedSlots = 1 ∷ 4 ∷ 2 ∷ 0 ∷ 1 ∷ 0 ∷ 3 ∷ 0 ∷ 1 ∷ 0 ∷ 2 ∷ 
 twoThenOne : Set
 twoThenOne = lentSet 1 1 ((4, 2, 0, 4) ∷ (4, 1, 0, 4) ∷ []) ((0, 1, 1) ∷ []) ((0, 0) ∷ [])
 
+-- both ways, once into the next round
+roundabout : ℕ → Set
+roundabout e = lentSet e 1 ((4, 1, 0, 4) ∷ (4, 1, 0, 4) ∷ []) ((0, 1, 1) ∷ (1, 0, 1) ∷ []) ((0, 0) ∷ (0, 1) ∷ [])
+
+-- a job that is released late before the other task's next, in a cycle of one round and, with one task more, of two
+lateNext : List TaskRow → Set
+lateNext more = lentSet 2 1 ((4, 1, 0, 4) ∷ (4, 1, 3, 4) ∷ more) ((1, 0, 1) ∷ []) ((0, 1) ∷ [])
+
 -- ---- the table
 pub judgeCases : List Row
 judgeCases =
     -- A plan that is accepted, by value and for C.
     (ask.judging (onSome 1) smallSlots, says (0 ∷ []))
     ∷ (ask.judgingHead smallHead smallSlots, says (0 ∷ []))
+    ∷ (ask.judgingHead (set smallHead 0 2) smallSlots, says (0 ∷ []))
     -- 10 comes before 11: m of 9; a head with a byte left over, one cut short, and one that the reader refuses.
     ∷ (ask.judging (onSome 9) [], says (10 ∷ []))
     ∷ (ask.judgingHead (smallHead ++ (0 ∷ [])) [], says (10 ∷ []))
     ∷ (ask.judgingHead (take 16 smallHead) [], says (10 ∷ []))
-    ∷ (ask.judgingHead (set smallHead 0 2) [], says (10 ∷ []))
+    ∷ (ask.judgingHead (set smallHead 0 3) [], says (10 ∷ []))
     -- 11: a slot too few, a slot too many, and a plan for one processor where there are two; before 12.
     ∷ (ask.judging (onSome 1) (1 ∷ 2 ∷ 1 ∷ []), says (11 ∷ []))
     ∷ (ask.judging (onSome 1) (1 ∷ 2 ∷ 1 ∷ 0 ∷ 0 ∷ []), says (11 ∷ []))
@@ -136,6 +146,18 @@ judgeCases =
     -- Every tick of the first job is earlier than the second's.
     ∷ (ask.judging twoThenOne (1 ∷ 1 ∷ 2 ∷ 0 ∷ []), says (0 ∷ []))
     ∷ (ask.judging twoThenOne (1 ∷ 2 ∷ 1 ∷ 0 ∷ []), says (23 ∷ 0 ∷ 0 ∷ 0 ∷ []))
+    -- Two tasks linked both ways, once into the next round, can be accepted, in edition 2 alone; the link within the round is kept or broken as before.
+    ∷ (ask.judging (roundabout 2) (1 ∷ 2 ∷ 0 ∷ 0 ∷ []), says (0 ∷ []))
+    ∷ (ask.judging (roundabout 2) (2 ∷ 1 ∷ 0 ∷ 0 ∷ []), says (23 ∷ 0 ∷ 0 ∷ 0 ∷ []))
+    ∷ (ask.judging (roundabout 1) (1 ∷ 2 ∷ 0 ∷ 0 ∷ []), says (10 ∷ []))
+    -- The second job lies in the next block: task 0 runs at true tick 5, where the slot tick is 1, and then at 4, when the first job still has to run.
+    ∷ (ask.getting (lateNext []) (2 ∷ 1 ∷ 0 ∷ 0 ∷ []) 0 1, gets 1 5 5)
+    ∷ (ask.judging (lateNext []) (2 ∷ 1 ∷ 0 ∷ 0 ∷ []), says (0 ∷ []))
+    ∷ (ask.judging (lateNext []) (1 ∷ 2 ∷ 0 ∷ 0 ∷ []), says (23 ∷ 0 ∷ 0 ∷ 0 ∷ []))
+    -- In a cycle of two rounds the last of the two links leaves it; k is below H/p.
+    ∷ (ask.judging (lateNext ((8, 1, 0, 8) ∷ [])) (1 ∷ 3 ∷ 0 ∷ 2 ∷ 1 ∷ 0 ∷ 0 ∷ 2 ∷ []), says (0 ∷ []))
+    ∷ (ask.judging (lateNext ((8, 1, 0, 8) ∷ [])) (1 ∷ 2 ∷ 0 ∷ 2 ∷ 1 ∷ 0 ∷ 0 ∷ 3 ∷ []), says (23 ∷ 0 ∷ 0 ∷ 1 ∷ []))
+    ∷ (ask.judging (lateNext ((8, 1, 0, 8) ∷ [])) (1 ∷ 3 ∷ 0 ∷ 0 ∷ 1 ∷ 2 ∷ 0 ∷ 2 ∷ []), says (23 ∷ 0 ∷ 0 ∷ 0 ∷ []))
     -- Eight processors in one tick; with one of them idle its task gets none.
     ∷ (ask.judging (full 8) (1 ∷ 2 ∷ 3 ∷ 4 ∷ 5 ∷ 6 ∷ 7 ∷ 8 ∷ []), says (0 ∷ []))
     ∷ (ask.judging (full 8) (1 ∷ 2 ∷ 3 ∷ 4 ∷ 5 ∷ 6 ∷ 7 ∷ 0 ∷ []), says (22 ∷ 7 ∷ 0 ∷ 0 ∷ 0 ∷ 0 ∷ []))
@@ -147,9 +169,9 @@ judgeCases =
 
 -- ==== The judge's definition answers each of them so.
 pub judge-cases : Answered judgeCases
-unfolding judgeCases onSome full lateBy overEnd bothOverEnd twiceLate most mostSlots linked linkedSlots twoThenOne small smallHead smallSlots reply taskNumbers rawHeadings
+unfolding judgeCases onSome full lateBy overEnd bothOverEnd twiceLate most mostSlots linked linkedSlots twoThenOne roundabout lateNext small smallHead smallSlots reply taskNumbers rawHeadings
     rawPairs lentSet least greatest all firstOf count total table gather lcm lcmOf holds rises pairsIn cycle jobsOf jobsBefore jobs cycleFits release common
-    linkFrom linkTo repeats linksOf links spansOf linksIn attributesFit taskFits pairKey pairFits patternKey headingFits patternFits openingFits sound
+    linkFrom linkTo repeats linksOf links editionOf spansOf linksIn attributesFit taskFits pairKey pairFits patternKey headingFits patternFits openingFits sound
     slot shows shown awake runs ticks firstTick lastTick numberAt held gotAt andThen timesFrom taskFrom onTask tasksFrom twoAt onTwo pairsFrom countFrom headingAt onHeading
     onPairs patternFrom onPattern patternsFrom openingOf middleFrom onOpening onTasks onMiddle onPatterns headFrom takeHead takenOf high twin mated clashes strays strayed
     miscounts miscounted against bars broken breaks brokenPair brokenPattern highAt twiceAt outsideAt wrongAt brokenAt planRules rules verdictOf

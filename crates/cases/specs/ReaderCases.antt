@@ -8,6 +8,7 @@ use Rattle.vocabulary.specs.Total.{total}
 use Rattle.vocabulary.specs.Table.{table}
 use Rattle.vocabulary.specs.Multiple.{lcm, lcmOf}
 use Rattle.kinds.specs.Limits.{holds, rises}
+use Rattle.kinds.specs.Editions.{editionOf}
 use Rattle.kinds.specs.Cycle.{cycle, jobsOf, jobsBefore, jobs, cycleFits}
 use Rattle.kinds.specs.Links.{spansOf, linksIn}
 use Rattle.numbers.specs.Numbers.{numberAt, held, gotAt, andThen}
@@ -75,10 +76,11 @@ readerCases =
     ∷ (ask.reading (from small 3 (0xFF ∷ 0xFF ∷ 0xFF ∷ [])), says (2 ∷ 3 ∷ []))
     ∷ (ask.reading (from small 0 (0x81 ∷ 0x00 ∷ [])), says (2 ∷ 0 ∷ []))
     ∷ (ask.reading (from small 16 (0x80 ∷ 0x00 ∷ [])), says (2 ∷ 16 ∷ []))
-    -- 3: editions 0, 2 and 128.
+    -- 3: editions 0, 3 and 128; 2 is known.
     ∷ (ask.reading (set small 0 0), says (3 ∷ 0 ∷ []))
-    ∷ (ask.reading (set small 0 2), says (3 ∷ 0 ∷ []))
+    ∷ (ask.reading (set small 0 3), says (3 ∷ 0 ∷ []))
     ∷ (ask.reading (from small 0 (0x80 ∷ 0x01 ∷ [])), says (3 ∷ 0 ∷ []))
+    ∷ (ask.reading (set small 0 2), says (0 ∷ 17 ∷ []))
     -- 4: no task, 65 tasks; 64 are read on.
     ∷ (ask.reading (set small 1 0), says (4 ∷ 1 ∷ []))
     ∷ (ask.reading (set small 1 65), says (4 ∷ 1 ∷ []))
@@ -134,6 +136,12 @@ readerCases =
     ∷ (ask.reading (set coprime 17 3), says (6 ∷ 17 ∷ []))
     ∷ (ask.reading (set coprime 16 2), says (6 ∷ 16 ∷ []))
     ∷ (ask.reading (set (set coprime 17 2) 18 1), says (0 ∷ 19 ∷ []))
+    -- In edition 2 a is below 3 as before, and b below 4; (0, 1) and (0, 3) are two pairs, in this order.
+    ∷ (ask.reading (set (set coprime 0 2) 17 3), says (6 ∷ 17 ∷ []))
+    ∷ (ask.reading (set (set coprime 0 2) 16 4), says (6 ∷ 16 ∷ []))
+    ∷ (ask.reading (set (set coprime 0 2) 16 3), says (0 ∷ 19 ∷ []))
+    ∷ (ask.reading (set (set (set (set coprime 0 2) 16 1) 17 0) 18 3), says (0 ∷ 19 ∷ []))
+    ∷ (ask.reading (set (set (set (set coprime 0 2) 16 3) 17 0) 18 1), says (6 ∷ 18 ∷ []))
     -- Pairs that fall at a; that fall at b, or stay, where the first numbers are equal; (0, 0) and (0, 1) rise.
     ∷ (ask.reading (set (set coprime 15 1) 17 0), says (6 ∷ 17 ∷ []))
     ∷ (ask.reading (set coprime 17 0), says (6 ∷ 18 ∷ []))
@@ -163,6 +171,6 @@ readerCases =
 -- ==== The reader's definition answers each of them so.
 pub reader-cases : Answered readerCases
 unfolding readerCases small patterned coprime from fromSeven toSeven onePair eight amongSeven reply taskNumbers least all total table lcm lcmOf holds
-    rises cycle jobsOf jobsBefore jobs cycleFits spansOf linksIn numberAt held gotAt andThen timesFrom taskFrom onTask tasksFrom twoAt onTwo pairsFrom countFrom
+    rises cycle jobsOf jobsBefore jobs cycleFits editionOf spansOf linksIn numberAt held gotAt andThen timesFrom taskFrom onTask tasksFrom twoAt onTwo pairsFrom countFrom
     headingAt onHeading onPairs patternFrom onPattern patternsFrom openingOf middleFrom onOpening onTasks onMiddle onPatterns headFrom high slotsFrom onSlots onHead readOf
 reader-cases = refl

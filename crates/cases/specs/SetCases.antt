@@ -15,6 +15,7 @@ use Rattle.graph.specs.Graph.{reach, loops}
 use Rattle.graph.specs.Longest as longest
 use Rattle.graph.specs.Soonest as soonest
 use Rattle.kinds.specs.Limits.{holds, rises}
+use Rattle.kinds.specs.Editions.{editionOf}
 use Rattle.kinds.specs.Tasks.{Set, pairsIn}
 use Rattle.kinds.specs.Cycle.{cycle, jobsOf, jobsBefore, jobs, cycleFits}
 use Rattle.kinds.specs.Jobs.{release, due, numberOfJob, taskOfJob, jobOfJob}
@@ -51,13 +52,20 @@ oneTask t c o d = tasksOn 1 ((t, c, o, d) ∷ [])
 patterned : List (ℕ × ℕ × ℕ) → Set
 patterned hs = lentSet 1 1 ((2, 1, 0, 2) ∷ (4, 1, 0, 4) ∷ (4, 1, 0, 4) ∷ []) hs ((0, 0) ∷ (0, 0) ∷ (0, 0) ∷ [])
 
--- two pairs of a pattern, with periods 2 and 3
-paired : ℕ → ℕ → ℕ → ℕ → Set
-paired a b c d = lentSet 1 1 ((2, 1, 0, 2) ∷ (3, 1, 0, 3) ∷ []) ((0, 1, 2) ∷ []) ((a, b) ∷ (c, d) ∷ [])
+-- two pairs of a pattern, with periods 2 and 3, in an edition
+pairedIn : ℕ → ℕ → ℕ → ℕ → ℕ → Set
+pairedIn e a b c d = lentSet e 1 ((2, 1, 0, 2) ∷ (3, 1, 0, 3) ∷ []) ((0, 1, 2) ∷ []) ((a, b) ∷ (c, d) ∷ [])
 
--- task 0 with period 128 and seven tasks with period 1; the patterns before n patterns among the seven, each with the pair (0, 0)
+paired : ℕ → ℕ → ℕ → ℕ → Set
+paired = pairedIn 1
+
+-- task 0 with period 128 and seven tasks with period 1; the patterns before n patterns among the seven, each with the pair (0, b)
+sevenIn : ℕ → ℕ → List (ℕ × ℕ × ℕ) → ℕ → Set
+sevenIn e b hs n =
+    lentSet e 1 ((128, 1, 0, 1) ∷ replicate 7 (1, 1, 0, 1)) (hs ++ table (λ k. (fromSeven k, toSeven k, 1)) n) (replicate 33 (0, b))
+
 seven : List (ℕ × ℕ × ℕ) → ℕ → Set
-seven hs n = lentSet 1 1 ((128, 1, 0, 1) ∷ replicate 7 (1, 1, 0, 1)) (hs ++ table (λ k. (fromSeven k, toSeven k, 1)) n) (replicate 33 (0, 0))
+seven = sevenIn 1 0
 
 -- 65 or fewer patterns among nine tasks with period 1
 manyPatterns : ℕ → Set
@@ -74,8 +82,15 @@ chain : ℕ → Set
 chain d = lentSet 1 1 ((12, 2, 3, 9) ∷ (12, 3, 0, 10) ∷ (12, 4, 2, d) ∷ []) ((0, 1, 1) ∷ (1, 2, 1) ∷ []) ((0, 0) ∷ (0, 0) ∷ [])
 
 -- periods 2 and 4, linked both ways by one pair each
+bothWaysIn : ℕ → ℕ → ℕ → ℕ → Set
+bothWaysIn e c a b = lentSet e 1 ((2, c, 0, 2) ∷ (4, 1, 0, 4) ∷ []) ((0, 1, 1) ∷ (1, 0, 1) ∷ []) ((a, 0) ∷ (0, b) ∷ [])
+
 bothWays : ℕ → ℕ → ℕ → Set
-bothWays c a b = lentSet 1 1 ((2, c, 0, 2) ∷ (4, 1, 0, 4) ∷ []) ((0, 1, 1) ∷ (1, 0, 1) ∷ []) ((a, 0) ∷ (0, b) ∷ [])
+bothWays = bothWaysIn 1
+
+-- periods 2, 4 and more, on two processors: a job of task 1, released late and with running time c, before the first job of task 0 in its next round
+intoNext : ℕ → List TaskRow → Set
+intoNext c more = lentSet 2 2 ((2, 1, 0, 2) ∷ (4, c, 3, 4) ∷ more) ((1, 0, 1) ∷ []) ((0, 2) ∷ [])
 
 -- three tasks with period 4 and patterns with the pair (0, 0)
 threeLinked : List (ℕ × ℕ × ℕ) → Set
@@ -102,13 +117,19 @@ posAll (x ∷ xs) = pos x ∷ posAll xs
 blank : ℕ → List ℤ
 blank n = replicate n (subℕ 0 7)
 
+-- a pair that leads into the next round, and back over longer periods: its first link lies on a cycle, its last leaves the block
+longWayBack : Set
+longWayBack =
+    lentSet 2 1 ((4, 1, 0, 4) ∷ (4, 1, 0, 4) ∷ (8, 1, 0, 8) ∷ []) ((0, 1, 1) ∷ (1, 2, 1) ∷ (2, 0, 1) ∷ []) ((0, 1) ∷ (1, 0) ∷ (0, 0) ∷ [])
+
 -- ---- the table
 pub setCases : List Row
 setCases =
-    -- 10: editions 0 and 2.
+    -- 10: editions 0 and 3; 1 and 2 are known.
     (ask.screening (opened 1 1), says (0 ∷ []))
     ∷ (ask.screening (opened 0 1), says (10 ∷ []))
-    ∷ (ask.screening (opened 2 1), says (10 ∷ []))
+    ∷ (ask.screening (opened 3 1), says (10 ∷ []))
+    ∷ (ask.screening (opened 2 1), says (0 ∷ []))
     -- m of 0 and of 9; 8 is no fault.
     ∷ (ask.screening (opened 1 0), says (10 ∷ []))
     ∷ (ask.screening (opened 1 9), says (10 ∷ []))
@@ -155,6 +176,12 @@ setCases =
     ∷ (ask.judging (paired 0 0 3 0) [], says (10 ∷ []))
     ∷ (ask.judging (paired 0 0 0 2) [], says (10 ∷ []))
     ∷ (ask.judging (paired 0 0 2 1) [], says (11 ∷ []))
+    -- In edition 2 a is below 3 as before, and b below 4; (0, 1) and (0, 3) are two pairs, in this order.
+    ∷ (ask.judging (pairedIn 2 0 0 3 0) [], says (10 ∷ []))
+    ∷ (ask.judging (pairedIn 2 0 0 0 4) [], says (10 ∷ []))
+    ∷ (ask.judging (pairedIn 2 0 0 0 3) [], says (11 ∷ []))
+    ∷ (ask.judging (pairedIn 2 0 1 0 3) [], says (11 ∷ []))
+    ∷ (ask.judging (pairedIn 2 0 3 0 1) [], says (10 ∷ []))
     -- Pairs that fall at a; that fall at b, or stay; (0, 0) and (0, 1), and (0, 1) and (1, 0), are no fault.
     ∷ (ask.judging (paired 1 0 0 1) [], says (10 ∷ []))
     ∷ (ask.judging (paired 0 1 0 0) [], says (10 ∷ []))
@@ -169,6 +196,12 @@ setCases =
     ∷ (ask.judging (seven ((0, 1, 1) ∷ []) 32) [], says (10 ∷ []))
     ∷ (ask.linking (seven [] 32), is 4096)
     ∷ (ask.judging (seven [] 32) [], says (11 ∷ []))
+    -- Links into the next block are counted with the others.
+    ∷ (ask.linking (sevenIn 2 1 ((0, 1, 1) ∷ []) 32), is 4097)
+    ∷ (ask.judging (sevenIn 2 1 ((0, 1, 1) ∷ []) 32) [], says (10 ∷ []))
+    ∷ (ask.linking (sevenIn 2 1 [] 32), is 4096)
+    ∷ (ask.judging (sevenIn 2 1 [] 32) [], says (11 ∷ []))
+    ∷ (ask.judging (sevenIn 1 1 [] 32) [], says (10 ∷ []))
     -- For C: a head that is whole, one with a byte left over, one cut short, and one that the reader refuses by 4.
     ∷ (ask.screeningHead smallHead, says (0 ∷ []))
     ∷ (ask.screeningHead (smallHead ++ (0 ∷ [])), says (10 ∷ []))
@@ -185,6 +218,12 @@ setCases =
       ask.adjusting repeatedBack (blank 7) (blank 7),
       adjusts (0 ∷ []) (posAll (0 ∷ 3 ∷ 4 ∷ 7 ∷ 3 ∷ 7 ∷ 0 ∷ [])) (posAll (2 ∷ 4 ∷ 6 ∷ 8 ∷ 3 ∷ 7 ∷ 8 ∷ [])),
     )
+    -- Of a pair that leads into the next round the first link lies in the cycle and counts, and the last leaves it and does not; alone it is the last.
+    ∷ (
+      ask.adjusting (intoNext 1 ((8, 1, 0, 8) ∷ [])) (blank 7) (blank 7),
+      adjusts (0 ∷ []) (posAll (0 ∷ 2 ∷ 4 ∷ 6 ∷ 3 ∷ 7 ∷ 0 ∷ [])) (posAll (2 ∷ 4 ∷ 6 ∷ 8 ∷ 5 ∷ 11 ∷ 8 ∷ [])),
+    )
+    ∷ (ask.adjusting (intoNext 1 []) (blank 3) (blank 3), adjusts (0 ∷ []) (posAll (0 ∷ 2 ∷ 3 ∷ [])) (posAll (2 ∷ 4 ∷ 7 ∷ [])))
     -- 11: a buffer for releases and a buffer for deadlines of another length; neither is written.
     ∷ (ask.adjusting (chain 10) (blank 2) (blank 3), adjusts (11 ∷ []) (blank 2) (blank 3))
     ∷ (ask.adjusting (chain 10) (blank 3) (blank 4), adjusts (11 ∷ []) (blank 3) (blank 4))
@@ -199,6 +238,12 @@ setCases =
     -- 13: job 1 of task 0 lies on a cycle with job 0 of task 1; with job 0 before it and job 1 after it there is none.
     ∷ (ask.screening (bothWays 1 1 1), says (13 ∷ 0 ∷ 1 ∷ []))
     ∷ (ask.screening (bothWays 1 0 1), says (0 ∷ []))
+    -- In edition 2 the same is a cycle; where one of the two leads into the next round, there is none.
+    ∷ (ask.screening (bothWaysIn 2 1 1 1), says (13 ∷ 0 ∷ 1 ∷ []))
+    ∷ (ask.screening (bothWaysIn 2 1 1 3), says (0 ∷ []))
+    ∷ (ask.screening (bothWaysIn 1 1 1 3), says (10 ∷ []))
+    -- Such a pair can have a link on a cycle all the same.
+    ∷ (ask.screening longWayBack, says (13 ∷ 0 ∷ 0 ∷ []))
     -- A cycle of three jobs; a job that only leads into a cycle, and one that only follows it, are not named.
     ∷ (ask.screening (threeLinked ((0, 1, 1) ∷ (1, 2, 1) ∷ (2, 0, 1) ∷ [])), says (13 ∷ 0 ∷ 0 ∷ []))
     ∷ (ask.screening (threeLinked ((0, 1, 1) ∷ (1, 2, 1) ∷ (2, 1, 1) ∷ [])), says (13 ∷ 1 ∷ 0 ∷ []))
@@ -222,14 +267,17 @@ setCases =
     -- A job that is not its task's first: held back by a late release, and called for by an early deadline.
     ∷ (ask.screening (lentSet 1 1 ((4, 2, 0, 3) ∷ (8, 1, 6, 2) ∷ []) ((1, 0, 1) ∷ []) ((0, 1) ∷ [])), says (15 ∷ 0 ∷ 1 ∷ []))
     ∷ (ask.screening (paired 0 1 1 0), says (15 ∷ 0 ∷ 1 ∷ []))
+    -- Into the next round: within the cycle the first job has two ticks for its three; where the link leaves the cycle nothing is found.
+    ∷ (ask.screening (intoNext 3 ((8, 1, 0, 8) ∷ [])), says (15 ∷ 1 ∷ 0 ∷ []))
+    ∷ (ask.screening (intoNext 3 []), says (0 ∷ []))
     ∷ []
 
 -- ==== The definitions answer each of them so.
 pub set-cases : Answered setCases
-unfolding setCases opened tasksOn oneTask patterned paired seven manyPatterns manyPairs chain bothWays threeLinked repeated repeatedBack fullLoad posAll
+unfolding setCases opened tasksOn oneTask patterned paired pairedIn seven sevenIn manyPatterns manyPairs chain bothWays bothWaysIn intoNext longWayBack threeLinked repeated repeatedBack fullLoad posAll
     blank small smallHead fromSeven toSeven reply taskNumbers rawHeadings rawPairs lentSet least all firstOf total table join gather lcm lcmOf reach
     loops longest.most longest.entry longest.rounds soonest.fewest soonest.due soonest.soonest holds rises pairsIn cycle jobsOf jobsBefore jobs
-    cycleFits release due numberOfJob taskOfJob jobOfJob common linkFrom linkTo repeats linksOf links inner spansOf linksIn attributesFit taskFits
+    cycleFits release due numberOfJob taskOfJob jobOfJob common linkFrom linkTo repeats linksOf links inner editionOf spansOf linksIn attributesFit taskFits
     pairKey pairFits patternKey headingFits patternFits openingFits sound numberAt held gotAt andThen timesFrom taskFrom onTask tasksFrom twoAt onTwo pairsFrom
     countFrom headingAt onHeading onPairs patternFrom onPattern patternsFrom openingOf middleFrom onOpening onTasks onMiddle onPatterns headFrom takeHead takenOf rules
     verdictOf pairLinks patternLinks cycleLinks linkStarts linkEnds network ownRelease ownDue ownRunning releaseWeight adjustedRelease

@@ -2,13 +2,14 @@
 use mathlib.Core.Path.{refl}
 use mathlib.Core.List.{List, [], _∷_, _++_}
 use Prim.Native.Nat.{ℕ}
-use lib.ListN.{take, replicate}
+use lib.ListN.{set, take, replicate}
 use Rattle.vocabulary.specs.Least.{least, all}
 use Rattle.vocabulary.specs.First.{firstOf}
 use Rattle.vocabulary.specs.Total.{total}
 use Rattle.vocabulary.specs.Table.{join}
 use Rattle.vocabulary.specs.Multiple.{lcm, lcmOf}
 use Rattle.kinds.specs.Limits.{holds, rises}
+use Rattle.kinds.specs.Editions.{editionOf}
 use Rattle.kinds.specs.Tasks.{Set, pairsIn}
 use Rattle.kinds.specs.Cycle.{cycle, jobsOf, jobsBefore, jobs, cycleFits}
 use Rattle.kinds.specs.Links.{common, repeats, linksOf, links, spansOf, linksIn}
@@ -51,7 +52,11 @@ writerCases =
     -- 12 before 18, 11 before 12 and 10 before 11; of two slots that are too high the lower is shown.
     ∷ (ask.writing (ofEdition 1) (1 ∷ 3 ∷ 1 ∷ 3 ∷ []) (buffer 20), writes (12 ∷ 1 ∷ []) (buffer 20))
     ∷ (ask.writing (ofEdition 1) (1 ∷ 3 ∷ 1 ∷ []) (buffer 20), writes (11 ∷ []) (buffer 20))
-    ∷ (ask.writing (ofEdition 2) (1 ∷ 3 ∷ 1 ∷ []) (buffer 20), writes (10 ∷ []) (buffer 20))
+    ∷ (ask.writing (ofEdition 3) (1 ∷ 3 ∷ 1 ∷ []) (buffer 20), writes (10 ∷ []) (buffer 20))
+    -- A set keeps its edition.
+    ∷ (ask.writing (ofEdition 2) smallSlots (buffer 21), writes (0 ∷ 21 ∷ []) (set small 0 2))
+    ∷ (ask.writingHead (set (set smallHead 0 2) 16 1) smallSlots (buffer 21), writes (0 ∷ 21 ∷ []) (set (set small 0 2) 16 1))
+    ∷ (ask.writingHead (set smallHead 16 1) smallSlots (buffer 21), writes (10 ∷ []) (buffer 21))
     -- Numbers from 128 on have two bytes.
     ∷ (
       ask.writing wide (replicate 128 2) (buffer 144),
@@ -79,7 +84,7 @@ writerCases =
 pub writer-cases : Answered writerCases
 unfolding writerCases ofEdition wide linked buffer small smallHead smallSlots reply taskNumbers rawHeadings
     rawPairs lentSet least all firstOf total join lcm lcmOf holds rises pairsIn cycle jobsOf jobsBefore jobs cycleFits common
-    repeats linksOf links spansOf linksIn attributesFit taskFits pairKey pairFits patternKey headingFits patternFits openingFits sound
+    repeats linksOf links editionOf spansOf linksIn attributesFit taskFits pairKey pairFits patternKey headingFits patternFits openingFits sound
     numberAt numberBytes held gotAt andThen timesFrom taskFrom onTask tasksFrom twoAt onTwo pairsFrom countFrom headingAt onHeading
     onPairs patternFrom onPattern patternsFrom openingOf middleFrom onOpening onTasks onMiddle onPatterns headFrom takeHead takenOf high
     headNumbers bytesIn headBytes bytesOf rules writtenOf leftIn writeFor writtenHead writeHeadFor

@@ -1,21 +1,19 @@
 -- How far the answers go that the reader gets from the layer below, and what the cycle's answer says of rule 5.
-use mathlib.Core.Bool.{Bool, true, false, _&&_}
+use mathlib.Core.Bool.{Bool, true, false}
 use mathlib.Core.Path.{_≡_, refl, sym, _∙_, ap}
 use mathlib.Core.List.{List}
 use Prim.Native.Nat.{ℕ, _+_, _*_, _/_, _≤_}
-use native.Mathlib.Nat.{div-le-self, div-le-of-le-mul, mul-le-mul, mul-comm}
+use native.Mathlib.Nat.{div-le-self, mul-le-mul}
 use native.Mathlib.Omega.{arith}
 use borrow.Author.Tests.{leb-true}
 use lib.Dec.{leb, eqb}
 use Rattle.vocabulary.specs.Test.{pick, both, fails}
-use Rattle.vocabulary.specs.Multiple.{lcm, lcm-le}
 use Rattle.kinds.specs.declared.Key.{Key}
 use Rattle.kinds.specs.declared.Cycle.{Cycle}
-use Rattle.kinds.specs.declared.Spans.{Spans}
-use Rattle.kinds.specs.Limits.{holds, periods, after}
+use Rattle.kinds.specs.Limits.{after}
 use Rattle.kinds.specs.Tasks.{Tasks}
 use Rattle.kinds.specs.Cycle.{cycle, cycleFits, cycleIs, periodsFit, noCycle, cycleOf}
-use Rattle.kinds.specs.Links.{spansOf, linksIn}
+use Rattle.kinds.specs.Links.{linksIn}
 use Rattle.kinds.specs.RangeLaws.{holds-at, cycle-pos}
 use Rattle.kinds.proofs.PatternWalk.{HeadingFacts, heading-facts}
 use Rattle.kinds.specs.SoundByTests.{few-tasks}
@@ -32,22 +30,6 @@ use Rattle.heads.specs.Tables.{headingAt, PatternTables, progress, Patte
 use Rattle.heads.specs.Heads.{openingOf, middleFrom}
 use Rattle.heads.proofs.ReadInRange.{heading-fits, opening-fits, middle-fits}
 use Rattle.heads.proofs.ReadSteps.{pattern-went}
-
--- a pair's numbers go no farther than a period
-pub spans-low : (e s t : ℕ) {m : Spans} → m ≡ spansOf e s t → (m .first ≤ 6000) × (m .second ≤ 6000)
-unfolding spansOf
-spans-low e s t q = by (holds periods s && holds periods t) refl q
-  where
-    by : (b : Bool) → (holds periods s && holds periods t) ≡ b → {m : Spans} → m ≡ pick b (record { whole = lcm s t; first = lcm s t / s; second = lcm s t / t }) (record { whole = 0; first = 0; second = 0 }) → (m .first ≤ 6000) × (m .second ≤ 6000)
-    by true h q =
-        let w = both {a = holds periods s} h in
-        let a = holds-at 1 6001 s (w .0) in
-        let b = holds-at 1 6001 t (w .1) in
-        let l : lcm s t ≤ s * t = lcm-le s t (a .0) (b .0) in
-        let x : lcm s t / s ≤ t = div-le-of-le-mul s l in
-        let y : lcm s t / t ≤ s = div-le-of-le-mul t (rw (mul-comm t s) l) in
-        rw q (omega arith, omega arith)
-    by false h q = rw q (omega arith, omega arith)
 
 -- a heading that was let through names two of the n tasks, and its pairs leave room
 pub heading-bounds : (s : List ℕ) (at : ℕ) (low : Key) (n used x y c q : ℕ) {r : answer.Heading} → r ≡ headingAt s at low n used → r ≡ heading.Of x y c q → HeadingFacts n low x y c used

@@ -7,7 +7,8 @@ use native.Mathlib.Omega.{arith}
 use lib.Dec.{leb, eqb}
 use Rattle.vocabulary.specs.Test.{took, missed, both}
 use Rattle.kinds.specs.declared.Key.{Key}
-use Rattle.kinds.specs.Limits.{Range, range, holds, editions, taskCounts, processorCounts, periods, runnings, offsets, deadlines, patternCounts, mostPairs, firstRange, secondRange, rises}
+use Rattle.kinds.specs.Limits.{Range, range, holds, taskCounts, processorCounts, periods, runnings, offsets, deadlines, patternCounts, mostPairs, firstRange, secondRange, rises}
+use Rattle.kinds.specs.Editions.{editions}
 use Rattle.kinds.specs.declared.Task.{Task}
 use Rattle.kinds.specs.Tasks.{Tasks, taskOf}
 use Rattle.kinds.specs.declared.Cycle.{Cycle}

@@ -5,7 +5,8 @@ use lib.Dec.{leb}
 use Rattle.vocabulary.specs.Test.{pick}
 use Rattle.kinds.specs.declared.TaskSet.{TaskSet}
 use Rattle.kinds.specs.Build.{inTables}
-use Rattle.kinds.specs.Limits.{editions, taskCounts, processorCounts, patternCounts, mostLinks, noKey}
+use Rattle.kinds.specs.Limits.{taskCounts, processorCounts, patternCounts, mostLinks, noKey}
+use Rattle.kinds.specs.Editions.{editions}
 use Rattle.kinds.specs.Tasks.{Tasks, tasksOf}
 use Rattle.kinds.specs.declared.Counts.{Counts}
 use Rattle.kinds.specs.declared.Cycle.{Cycle}

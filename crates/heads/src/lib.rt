@@ -12,6 +12,7 @@ ghost use Rattle.heads.specs.LoopSteps.{closing};
 use kinds::Attributes;
 use kinds::Counts;
 use kinds::Cycle;
+use kinds::Edition;
 use kinds::Headings;
 use kinds::Key;
 use kinds::Pairs;
@@ -164,7 +165,7 @@ fn put_heading(headings: &mut Headings, k: usize, from: u32, to: u32, n: u32)
 }
 
 fn put_pair(pairs: &mut Pairs, j: usize, a: u32, b: u32)
-    requires { ⌜ (j < 1024) × (a ≤ 6000) × (b ≤ 6000) ⌝ }
+    requires { ⌜ (j < 1024) × (a ≤ 6000) × (b ≤ 12000) ⌝ }
     ensures { λ _. ⌜ now (pairs .exit) ≡ putPair (now (pairs .entry)) j a b ⌝ }
 {
     let x = TaskSet::OF_PAIR * j;
@@ -223,7 +224,7 @@ fn read_pairs(
     used: usize,
     pairs: &mut Pairs,
 ) -> Outcome
-    requires { ⌜ (used + n ≤ 1024) × («limit_a» ≤ 6000) × («limit_b» ≤ 6000) ⌝ }
+    requires { ⌜ (used + n ≤ 1024) × («limit_a» ≤ 6000) × («limit_b» ≤ 12000) ⌝ }
     ensures { λ r. ⌜ pairsRead r (now (pairs .exit)) ≡ pairsFrom (now (file .entry)) n start noKey «limit_a» «limit_b» used (now (pairs .entry)) ⌝ }
 {
     let end = used + n;
@@ -307,8 +308,8 @@ fn read_opening(file: &[u8]) -> Opening
     match numbers::read_within(
         file,
         0,
-        TaskSet::EDITION,
-        TaskSet::EDITION_LIMIT,
+        Edition::FIRST,
+        Edition::LIMIT,
         Refusal::UnknownEdition,
     ) {
         Got::Refused(r) => Opening::Refused(r),

@@ -2,8 +2,8 @@
 use mathlib.Core.Path.{_≡_, refl, sym, ap, ap₂, _∙_}
 use mathlib.Core.Bool.{true, false}
 use mathlib.Core.List.{List}
-use Prim.Native.Nat.{ℕ, _+_, _*_, _/_, _<_, _≤_}
-use native.Mathlib.Nat.{div-le-self, le-of-dvd}
+use Prim.Native.Nat.{ℕ, _+_, _*_, _/_, _%_, _<_, _≤_}
+use native.Mathlib.Nat.{div-le-self, le-of-dvd, mul-le-mul, mod-lt}
 use native.Mathlib.Omega.{arith}
 use lib.Dec.{leb}
 use lib.ListN.{getD}
@@ -20,9 +20,10 @@ use Rattle.kinds.specs.Tasks.{Tasks, Patterns, Set, tasksOf, taskAt, period, fr
 use Rattle.kinds.specs.Tasks.{pairCount, pairsIn, pairsBefore, firstIn, secondIn, pairIn, pair-in, patternIn, pattern-in}
 use Rattle.kinds.specs.Cycle.{cycle, jobsOf, multipleOf}
 use Rattle.kinds.specs.Links.{common, linkFrom, linkTo, repeats}
-use Rattle.kinds.specs.Plans.{Plan}
-use Rattle.kinds.proofs.SoundFacts.{Sound}
-use Rattle.laws.specs.Order.{from-job-low, to-job-low}
+use Rattle.kinds.specs.Plans.{Plan, ticks}
+use Rattle.kinds.specs.RangeLaws.{reach-low}
+use Rattle.kinds.proofs.SoundFacts.{Sound, some-jobs}
+use Rattle.laws.specs.Repeat.{ticks-again}
 use Rattle.judge.specs.declared.Lane.{Lane}
 use Rattle.judge.specs.declared.LinkSteps.{LinkSteps}
 use Rattle.judge.specs.declared.Verdict.the-variants as verdict
@@ -31,7 +32,7 @@ use Rattle.judge.specs.Judgement.{brokenAt, planRules, verdictFrom}
 use Rattle.kinds.specs.JobTicks.{Gets}
 use Rattle.judge.proofs.Broken.{broken-is}
 use Rattle.judge.specs.TableNeeds.{PlanNeeds, laneOf, laneIn, Tells, stepsOf, StepsNeeds, stride, PairOf, PatternOf, LinkNeeds}
-use Rattle.judge.proofs.LaneLaws.{lane-parts, lane-tells, ask-here}
+use Rattle.judge.proofs.LaneLaws.{lane-tells}
 use Rattle.judge.proofs.CountLaws.{lane-is}
 
 module _ (h : ℕ) (xs bs : List ℕ) (x y : ℕ) {a b : Lane} (ea : a ≡ laneOf h xs bs x) (eb : b ≡ laneOf h xs bs y) where
@@ -123,7 +124,31 @@ module _ {ps : List ℕ} {rows : List (List ℕ)} {g : LinkSteps} {x : ℕ} (w :
         omega (arith, ap (λ (s : LinkSteps). s .second) (w .steps), div-le-self (common u v k) (period u (toTask v k))),
       )
 
-  -- The search has come to link n, which links job i to job j.
+  pair-low : (firstIn ps x ≤ 6000) × (secondIn ps x ≤ 12000)
+  unfolding stride
+  pair-low =
+      let a : firstIn (v .pairs) (pairsBefore v k + q) ≡ firstIn ps x = ap₂ firstIn (w .pairs) (sym (w .place)) in
+      let b : secondIn (v .pairs) (pairsBefore v k + q) ≡ secondIn ps x = ap₂ secondIn (w .pairs) (sym (w .place)) in (
+        omega (arith, a, f .first-low k q (w .low) (w .inside), ap (λ (s : LinkSteps). s .first) (w .steps), strides-low .0),
+        omega (
+          arith,
+          b,
+          f .second-low k q (w .low) (w .inside),
+          reach-low (w .all-ran .needs .edition) (common u v k / period u (toTask v k)) refl
+              (omega (arith, ap (λ (s : LinkSteps). s .second) (w .steps), strides-low .1)),
+        ),
+      )
+
+  -- Not only the jobs of the cycle get a tick: every job gets what the one gets that it repeats.
+  any-ran : (i l : ℕ) → i < u .count → 0 < ticks u p i l
+  any-ran i l h =
+      omega (
+        arith,
+        ticks-again u p i l (w .all-ran .needs .ticks) (f .divides i h),
+        w .all-ran .ran i (l % jobsOf u i) h (mod-lt l (some-jobs s f i h)),
+      )
+
+  -- The search has come to link n, which links job i to job j, perhaps past the cycle.
   module _ {n i j : ℕ} (ei : i ≡ firstIn ps x + n * g .first) (ej : j ≡ secondIn ps x + n * g .second) (l : n < g .rounds) where
     is-from : i ≡ linkFrom u v k q n
     unfolding linkFrom stride
@@ -133,24 +158,19 @@ module _ {ps : List ℕ} {rows : List (List ℕ)} {g : LinkSteps} {x : ℕ} (w :
     unfolding linkTo stride
     is-to = ej ∙ ap₂ _+_ (ap₂ secondIn (sym (w .pairs)) (w .place)) (ap (λ (s : LinkSteps). n * s .second) (w .steps))
 
-    from-low : i < jobsOf u (fromTask v k)
-    from-low = rw is-from (from-job-low s f k q n (w .low) (w .inside) (rounds-low l))
-
-    to-low : j < jobsOf u (toTask v k)
-    to-low = rw is-to (to-job-low s f k q n (w .low) (w .inside) (rounds-low l))
-
-    pub pair-jobs : (i < 2048) × (j < 2048) × (g .first ≤ 6000) × (g .second ≤ 6000)
+    pub pair-jobs : (i ≤ 36006000) × (j ≤ 36012000) × (g .first ≤ 6000) × (g .second ≤ 6000)
     pair-jobs =
-        let a = ask-here pair-from {k = i} (omega (arith, from-low, lane-parts u (fromTask v k) from-is .1)) in
-        let b = ask-here pair-to {k = j} (omega (arith, to-low, lane-parts u (toTask v k) to-is .1)) in
-        (omega (arith, a .1), omega (arith, b .1), strides-low .0, strides-low .1)
+        let few : n ≤ 6000 = omega (arith, rounds-few) in
+        let a = mul-le-mul few (strides-low .0) in
+        let b = mul-le-mul few (strides-low .1) in
+        (omega (arith, ei, pair-low .0), omega (arith, ej, pair-low .1), strides-low .0, strides-low .1)
 
     module _ {c a b c′ a′ b′ : ℕ} (from : Gets u p (fromTask v k) i c a b) (to : Gets u p (toTask v k) j c′ a′ b′) where
       link-is : leb a′ b ≡ breaks u v p k q n
       unfolding breaks
       link-is =
-          let r = w .all-ran .ran (fromTask v k) i (f .from-low k (w .low)) from-low in
-          let t = w .all-ran .ran (toTask v k) j (f .to-low k (w .low)) to-low in
+          let r = any-ran (fromTask v k) i (f .from-low k (w .low)) in
+          let t = any-ran (toTask v k) j (f .to-low k (w .low)) in
           broken-is u p (fromTask v k) i (toTask v k) j _ _ _ _ _ _ from (omega (arith, from .number, r)) to (omega (arith, to .number, t))
           ∙ rw (is-from, is-to)
 

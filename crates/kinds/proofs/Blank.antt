@@ -13,7 +13,8 @@ use Rattle.vocabulary.specs.Total.{total-same}
 use Rattle.vocabulary.specs.StopsAndZeros.{zeros-set}
 use Rattle.vocabulary.specs.Keep.{SamePrefix, kept-self, Row, row-none}
 use Rattle.kinds.specs.declared.TaskSet.{TaskSet}
-use Rattle.kinds.specs.Limits.{holds, editions}
+use Rattle.kinds.specs.Limits.{holds}
+use Rattle.kinds.specs.Editions.{editions}
 use Rattle.kinds.specs.Sound.{openingFits, sound}
 use Rattle.kinds.specs.Tasks.{view, taskOf, pairsIn, putHeading, putPair}
 use Rattle.kinds.specs.Build.{noTasks, overfull, plusTask, withTask, plusPattern, withPattern, plusPair, withPair}

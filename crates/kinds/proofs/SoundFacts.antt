@@ -11,7 +11,8 @@ use Rattle.vocabulary.specs.Least.{all, all-at}
 use Rattle.vocabulary.specs.Multiple.{lcm-pos, lcm-left, lcm-right, lcm-dvd, lcmOf-dvd}
 use Rattle.kinds.specs.declared.Key.{Key}
 use Rattle.kinds.specs.declared.Task.{Task}
-use Rattle.kinds.specs.Limits.{holds, rises, after, editions, taskCounts, patternCounts, periods, runnings, offsets}
+use Rattle.kinds.specs.Limits.{holds, rises, after, taskCounts, patternCounts, periods, runnings, offsets}
+use Rattle.kinds.specs.Editions.{editions}
 use Rattle.kinds.specs.Tasks.{Tasks, Patterns, Set, taskAt, period, running, offset, deadline, fromTask, toTask, pairCount, pairsBefore, pairFirst, pairSecond}
 use Rattle.kinds.specs.Cycle.{cycle, jobs, jobsOf, cycleFits}
 use Rattle.kinds.specs.Links.{common, reach, repeats, links}
@@ -21,7 +22,7 @@ use Rattle.kinds.proofs.PatternWalk.{HeadingFacts, heading-facts, patte
 
 pub record Sound (s : Set) : Type 0 where
   -- Edition, tasks and processors keep rules 3 and 4.
-  pub edition : s .edition ≡ 1
+  pub edition : (0 < s .edition) × (s .edition ≤ 2)
   pub some-tasks : 0 < s .tasks .count
   pub few-tasks : s .tasks .count ≤ 64
   pub some-processors : 0 < s .processors
@@ -54,7 +55,7 @@ pub record Sound (s : Set) : Type 0 where
   pub from-divides : (k : ℕ) → k < s .patterns .count → period (s .tasks) (fromTask (s .patterns) k) ∣ common (s .tasks) (s .patterns) k
   pub to-divides : (k : ℕ) → k < s .patterns .count → period (s .tasks) (toTask (s .patterns) k) ∣ common (s .tasks) (s .patterns) k
   pub whole : (k : ℕ) → k < s .patterns .count → common (s .tasks) (s .patterns) k ∣ cycle (s .tasks)
-  -- The two numbers of a pair are within their reach: a < p/Ti, and b < p/Tj in edition 1.
+  -- The two numbers of a pair are within their reach: a < p/Ti, and b < p/Tj in edition 1, 2·p/Tj in edition 2.
   pub first-low : (k q : ℕ) → k < s .patterns .count → q < pairCount (s .patterns) k → pairFirst (s .patterns) k q < common (s .tasks) (s .patterns) k / period (s .tasks) (fromTask (s .patterns) k)
   pub second-low : (k q : ℕ) → k < s .patterns .count → q < pairCount (s .patterns) k → pairSecond (s .patterns) k q < reach (s .edition) (common (s .tasks) (s .patterns) k) (period (s .tasks) (toTask (s .patterns) k))
   -- Pairs rise strictly within their pattern, as patterns do.
@@ -124,7 +125,7 @@ parts s e =
     record { opening = a .0; tasks = b .0; cycle = c .0; patterns = d .0; each = f .0; links = f .1 }
 
 record OpeningFacts (e n m : ℕ) : Type 0 where
-  edition : e ≡ 1
+  edition : (0 < e) × (e ≤ 2)
   some-tasks : 0 < n
   few-tasks : n ≤ 64
   some-processors : 0 < m
@@ -135,10 +136,10 @@ unfolding openingFits
 opening e n m h =
     let w = both {a = holds editions e} h in
     let x = both {a = holds taskCounts n} (w .1) in
-    let a = holds-at 1 2 e (w .0) in
+    let a = holds-at 1 3 e (w .0) in
     let b = holds-at 1 65 n (x .0) in
     let d = holds-at 1 9 m (x .1) in
-    record { edition = omega arith; some-tasks = b .0; few-tasks = omega arith; some-processors = d .0; few-processors = omega arith }
+    record { edition = (a .0, omega arith); some-tasks = b .0; few-tasks = omega arith; some-processors = d .0; few-processors = omega arith }
 
 cycle-low : (u : Tasks) → cycleFits u ≡ true → (cycle u ≤ 6000) × (jobs u ≤ 2048)
 unfolding cycleFits

@@ -16,10 +16,6 @@ range l u = record { low = l; limit = u }
 unfoldable pub holds : Range → ℕ → Bool
 holds r v = leb (r .low) v && ltb v (r .limit)
 
--- Rule R4.1: the editions that are known.
-abbrev pub editions : Range
-editions = range 1 2
-
 -- Rule R4.2: 1 to 64 tasks.
 abbrev pub taskCounts : Range
 taskCounts = range 1 65

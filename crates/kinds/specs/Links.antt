@@ -7,6 +7,7 @@ use Rattle.vocabulary.specs.Total.{total}
 use Rattle.vocabulary.specs.Multiple.{lcm}
 use Rattle.kinds.specs.declared.Spans.{Spans}
 use Rattle.kinds.specs.Limits.{holds, periods}
+use Rattle.kinds.specs.Editions.{editionOf}
 use Rattle.kinds.specs.Tasks.{Tasks, Patterns, period, fromTask, toTask, pairCount, pairFirst, pairSecond}
 use Rattle.kinds.specs.Cycle.{cycle, jobsOf}
 
@@ -18,9 +19,9 @@ common u v k = lcm (period u (fromTask v k)) (period u (toTask v k))
 abbrev pub firstReach : ℕ → ℕ → ℕ
 firstReach p t = p / t
 
--- and its second, by the edition: today p/Tj for every edition.
+-- and its second, by the edition: p/Tj in edition 1, 2·p/Tj in edition 2
 abbrev pub reach : ℕ → ℕ → ℕ → ℕ
-reach e p t = p / t
+reach e p t = editionOf e .rounds * (p / t)
 
 -- Rule R2.3: the two jobs that pair q of pattern k links for the n-th time, n = 0, 1, 2 and so on
 unfoldable pub linkFrom : Tasks → Patterns → ℕ → ℕ → ℕ → ℕ
@@ -40,7 +41,8 @@ linksOf u v k = pairCount v k * repeats u v k
 unfoldable pub links : Tasks → Patterns → ℕ
 links u v = total (linksOf u v) (v .count)
 
--- both jobs of a link lie in one block of H. In edition 1 every link of a cycle does
+-- both jobs of a link lie in the cycle, which is one block of H. In edition 1 every link of a cycle does; in edition 2 a pair's last may lead into the next
+-- block
 unfoldable pub inner : Tasks → Patterns → ℕ → ℕ → ℕ → Bool
 inner u v k q n = ltb (linkFrom u v k q n) (jobsOf u (fromTask v k)) && ltb (linkTo u v k q n) (jobsOf u (toTask v k))
 

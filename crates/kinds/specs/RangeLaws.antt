@@ -2,8 +2,8 @@
 use mathlib.Core.Path.{_≡_, refl, sym, ap, _∙_}
 use mathlib.Core.Bool.{Bool, true, false, _&&_}
 use mathlib.Core.List.{List}
-use Prim.Native.Nat.{ℕ, _+_, _*_, _/_, _<_, _≤_}
-use native.Mathlib.Nat.{lt-of-lt-of-le}
+use Prim.Native.Nat.{ℕ, zero, suc, _+_, _*_, _/_, _<_, _≤_}
+use native.Mathlib.Nat.{lt-of-lt-of-le, div-le-of-le-mul, mul-comm, mul-le-mul}
 use native.Mathlib.Numerals.{add-one}
 use native.Mathlib.Omega.{arith}
 use lib.Dec.{leb, ltb}
@@ -12,12 +12,15 @@ use borrow.Author.Tests.{ltb-true, leb-true, lt-ltb, le-ltb, le-leb, lt-leb}
 use Rattle.vocabulary.specs.Test.{pick, took, both, and-false, fails}
 use Rattle.vocabulary.specs.Least.{all, all-fails}
 use Rattle.vocabulary.specs.Total.{total, total-none, total-more, total-up}
-use Rattle.vocabulary.specs.Multiple.{lcm, lcm-pos, lcmOf, lcmOf-more, lcmOf-up, lcmOf-pos}
+use Rattle.vocabulary.specs.Multiple.{lcm, lcm-pos, lcm-le, lcmOf, lcmOf-more, lcmOf-up, lcmOf-pos}
 use Rattle.kinds.specs.declared.Key.{Key}
+use Rattle.kinds.specs.declared.Edition.{Edition}
+use Rattle.kinds.specs.declared.Spans.{Spans}
 use Rattle.kinds.specs.Limits.{range, holds, periods, rises, after}
+use Rattle.kinds.specs.Editions.{over, editionOf}
 use Rattle.kinds.specs.Tasks.{Tasks, period, pairsIn, firstIn, secondIn}
 use Rattle.kinds.specs.Cycle.{cycle, jobs, jobsBefore, jobsOf, cycleFits, multipleOf, periodsFit, ticksOf, noCycle, cycleOf}
-use Rattle.kinds.specs.Links.{firstReach, reach, spansOf}
+use Rattle.kinds.specs.Links.{firstReach, spansOf}
 use Rattle.kinds.specs.Sound.{pairKey, pairFits}
 
 -- ---- ranges
@@ -36,6 +39,30 @@ holds-high l u v p = rw (le-ltb v u p) (and-false (leb l v))
 pub holds-at : (l u v : ℕ) → holds (range l u) v ≡ true → (l ≤ v) × (v < u)
 unfolding holds
 holds-at l u v e = let w = both {a = leb l v} {b = ltb v u} e in (leb-true l v (w .0), ltb-true v u (w .1))
+
+-- ---- editions
+pub edition-first : (e : ℕ) → e ≡ 1 → over 1 ≡ editionOf e
+unfolding editionOf
+edition-first e q = rw q
+
+pub edition-second : (e : ℕ) → e ≡ 2 → over 2 ≡ editionOf e
+unfolding editionOf
+edition-second e q = rw q
+
+pub edition-other : (e : ℕ) → (e ≡ 1 → ⊥) → (e ≡ 2 → ⊥) → over 0 ≡ editionOf e
+unfolding editionOf
+edition-other zero a b = refl
+edition-other (suc zero) a b = absurd (a refl)
+edition-other (suc (suc zero)) a b = absurd (b refl)
+edition-other (suc (suc (suc e))) a b = refl
+
+-- No edition reaches over more than two rounds.
+pub rounds-low : (e : ℕ) → editionOf e .rounds ≤ 2
+unfolding editionOf
+rounds-low zero = omega arith
+rounds-low (suc zero) = omega arith
+rounds-low (suc (suc zero)) = omega arith
+rounds-low (suc (suc (suc e))) = omega arith
 
 -- ---- the pairs of the first n patterns
 pub pairs-none : (ns : List ℕ) → pairsIn ns 0 ≡ 0
@@ -68,9 +95,35 @@ pub spans-none : (e s t : ℕ) {m : ℕ} → m ≡ multipleOf s t → m ≡ 0 �
 unfolding spansOf
 spans-none e s t q z = rw (multiple-none s t q z)
 
-pub spans-some : (e s t : ℕ) {m : ℕ} → m ≡ multipleOf s t → (m ≡ 0 → ⊥) → record { whole = m; first = firstReach m s; second = reach e m t } ≡ spansOf e s t
+-- Their multiple goes into neither more often than the other is long.
+pub shares-low : (s t : ℕ) {m : ℕ} → m ≡ multipleOf s t → (m ≡ 0 → ⊥) → (m / s ≤ 6000) × (m / t ≤ 6000)
+shares-low s t {m} q z =
+    let w = multiple-some s t q z in
+    let p = both {a = holds periods s} (w .0) in
+    let a = holds-at 1 6001 s (p .0) in
+    let b = holds-at 1 6001 t (p .1) in
+    let l : m ≤ s * t = omega (arith, lcm-le s t (a .0) (b .0), w .1) in
+    let x : m / s ≤ t = div-le-of-le-mul s l in
+    let y : m / t ≤ s = div-le-of-le-mul t (rw (mul-comm t s) l) in
+    (omega arith, omega arith)
+
+pub spans-some : (e s t : ℕ) {m : ℕ} {x : Edition} → m ≡ multipleOf s t → (m ≡ 0 → ⊥) → x ≡ editionOf e
+    → record { whole = m; first = firstReach m s; second = x .rounds * (m / t) } ≡ spansOf e s t
 unfolding spansOf
-spans-some e s t q z = let w = multiple-some s t q z in rw (w .0, w .1)
+spans-some e s t q z i = let w = multiple-some s t q z in rw (i, w .0, w .1)
+
+-- So a pair's numbers stay low, in every edition.
+pub reach-low : (e n : ℕ) {x : Edition} → x ≡ editionOf e → n ≤ 6000 → x .rounds * n ≤ 12000
+reach-low e n i l = rw i (mul-le-mul (rounds-low e) l)
+
+pub spans-low : (e s t : ℕ) {m : Spans} → m ≡ spansOf e s t → (m .first ≤ 6000) × (m .second ≤ 12000)
+spans-low e s t {m} q = by (multipleOf s t) refl
+  where
+    by : (n : ℕ) → n ≡ multipleOf s t → (m .first ≤ 6000) × (m .second ≤ 12000)
+    by zero h = rw (q ∙ sym (spans-none e s t h refl)) (omega arith, omega arith)
+    by (suc n) h =
+        let w = shares-low s t h (λ z. omega arith) in
+        rw (q ∙ sym (spans-some e s t h (λ z. omega arith) refl)) (w .0, reach-low e (suc n / t) refl (w .1))
 
 -- ---- the cycle of n periods
 -- It is found by one period after another. A period out of its range, or a multiple over the limit at any of them, settles the answer.

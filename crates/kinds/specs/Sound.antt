@@ -13,8 +13,9 @@ use Rattle.kinds.specs.declared.Tested.{Tested}
 use Rattle.kinds.specs.declared.Cycle.{Cycle}
 use Rattle.kinds.specs.declared.Counts.{Counts}
 use Rattle.vocabulary.specs.Test.{pick}
-use Rattle.kinds.specs.Limits.{holds, editions, taskCounts, processorCounts, periods, runnings, offsets, deadlines, patternCounts, fewestPairs}
+use Rattle.kinds.specs.Limits.{holds, taskCounts, processorCounts, periods, runnings, offsets, deadlines, patternCounts, fewestPairs}
 use Rattle.kinds.specs.Limits.{mostPairs, mostLinks, noKey, after, rises}
+use Rattle.kinds.specs.Editions.{editions}
 use Rattle.kinds.specs.Tasks.{Tasks, Patterns, Set, taskAt, period, fromTask, toTask, pairCount, pairsBefore, firstIn, secondIn}
 use Rattle.kinds.specs.Cycle.{cycle, cycleFits, cycleIs, noCycle}
 use Rattle.kinds.specs.Links.{common, firstReach, reach, links, spansOf, linksIn}

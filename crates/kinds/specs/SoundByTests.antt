@@ -10,7 +10,8 @@ use Rattle.vocabulary.specs.Least.{all, all-at, all-from}
 use Rattle.kinds.specs.declared.Cycle.{Cycle}
 use Rattle.kinds.specs.declared.Tested.{Tested}
 use Rattle.kinds.specs.declared.Counts.{Counts}
-use Rattle.kinds.specs.Limits.{holds, editions, periods}
+use Rattle.kinds.specs.Limits.{holds, periods}
+use Rattle.kinds.specs.Editions.{editions}
 use Rattle.kinds.specs.Tasks.{Tasks, Set, tasksOf, patternsOf, period}
 use Rattle.kinds.specs.Build.{lentSet}
 use Rattle.kinds.specs.Cycle.{cycle, jobs, cycleFits, periodsFit, cycleIs, noCycle, cycleOf}

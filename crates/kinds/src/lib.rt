@@ -8,6 +8,7 @@ ghost use Rattle.vocabulary.specs.Total.{total};
 ghost use Rattle.vocabulary.specs.Least.{all};
 ghost use Rattle.vocabulary.specs.Multiple.{lcm};
 ghost use Rattle.kinds.specs.Limits.{Range, range, holds, periods, rises};
+ghost use Rattle.kinds.specs.Editions.{editionOf};
 ghost use Rattle.kinds.specs.Tasks.{Tasks, period, tasksOf, patternsOf, pairsIn, taskIn, patternIn, pairIn, view};
 ghost use Rattle.kinds.specs.Cycle.{multipleOf, ticksOf, cycleOf};
 ghost use Rattle.kinds.specs.Links.{spansOf, linksIn};
@@ -52,6 +53,11 @@ pub struct Pattern {
 pub struct Pair {
     pub first: u32,
     pub second: u32,
+}
+
+// An edition of plan files: over how many rounds of its pattern the second number of a pair may reach.
+pub struct Edition {
+    pub rounds: u32,
 }
 
 // The numbers of a set, without its tables: how many tasks and patterns it has, and the ticks and jobs of its cycle.
@@ -110,12 +116,28 @@ impl Pattern {
     pub const FEWEST_PAIRS: u32 = 1;
 }
 
+impl Edition {
+    pub const FIRST: u32 = 1;
+
+    pub const SECOND: u32 = 2;
+
+    pub const LIMIT: u32 = Edition::SECOND + 1;
+
+    // The edition with this number; one that is not known reaches over no round.
+    pub fn of(number: u32) -> Edition
+        ensures { λ r. ⌜ r ≡ editionOf number ⌝ }
+    {
+        if number == Edition::FIRST {
+            return Edition { rounds: 1 };
+        }
+        if number == Edition::SECOND {
+            return Edition { rounds: 2 };
+        }
+        Edition { rounds: 0 }
+    }
+}
+
 impl TaskSet {
-    // The one edition that is known.
-    pub const EDITION: u32 = 1;
-
-    pub const EDITION_LIMIT: u32 = TaskSet::EDITION + 1;
-
     pub const FEWEST_TASKS: usize = 1;
 
     pub const MOST_TASKS: usize = 64;
@@ -390,10 +412,11 @@ pub fn spans_of(edition: u32, s: u32, t: u32) -> Spans
             second: 0,
         };
     }
+    let e = Edition::of(edition);
     Spans {
         whole: p,
         first: p / s,
-        second: p / t,
+        second: e.rounds * (p / t),
     }
 }
 
@@ -411,7 +434,7 @@ pub fn links_in(n: u32, h: u32, p: u32) -> u64
 fn opening_fits(edition: u32, tasks: usize, processors: u32) -> bool
     ensures { λ b. ⌜ b ≡ openingFits edition tasks processors ⌝ }
 {
-    if !is_within(edition, TaskSet::EDITION, TaskSet::EDITION_LIMIT) {
+    if !is_within(edition, Edition::FIRST, Edition::LIMIT) {
         return false;
     }
     if tasks < TaskSet::FEWEST_TASKS {

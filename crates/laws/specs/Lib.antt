@@ -1,5 +1,6 @@
 pub mod Repeat
 pub mod Order
+pub mod Blocks
 pub mod Back
 pub mod Windows
 pub mod Links

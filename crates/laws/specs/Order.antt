@@ -1,8 +1,8 @@
--- The jobs of a cycle by number: a number tells its task and its job, and a link's jobs have numbers.
+-- The jobs of a cycle by number: a number tells its task and its job, and a link's first job has one.
 use mathlib.Core.Path.{_≡_, refl, sym, ap}
 use mathlib.Core.Bool.{Bool}
 use mathlib.Core.Logic.{_⊎_, inl, inr}
-use Prim.Native.Nat.{ℕ, zero, suc, _+_, _-_, _*_, _/_, _<_, _≤_, _∣_}
+use Prim.Native.Nat.{ℕ, zero, suc, _+_, _*_, _/_, _<_, _≤_, _∣_}
 use native.Mathlib.Nat.{le-div-iff-mul-le, div-mul-cancel, mul-le-mul, le-refl}
 use native.Mathlib.Omega.{arith}
 use lib.Arith.{digits-lt}
@@ -11,10 +11,10 @@ use borrow.Author.Tests.{lt-ltb, le-ltb, ltb-false}
 use Rattle.vocabulary.specs.Test.{lt-or-le}
 use Rattle.vocabulary.specs.Least.{least, Least, least-is, least-only}
 use Rattle.vocabulary.specs.Total.{total-none, total-suc, total-up}
-use Rattle.kinds.specs.Tasks.{Tasks, Set, period, fromTask, toTask, pairCount, pairFirst, pairSecond}
+use Rattle.kinds.specs.Tasks.{Tasks, Set, period, fromTask, pairCount, pairFirst}
 use Rattle.kinds.specs.Cycle.{cycle, jobsOf, jobsBefore, jobs}
 use Rattle.kinds.specs.Jobs.{numberOfJob, taskOfJob, jobOfJob}
-use Rattle.kinds.specs.Links.{common, linkFrom, linkTo, repeats}
+use Rattle.kinds.specs.Links.{common, linkFrom, repeats}
 use Rattle.kinds.proofs.SoundFacts.{Sound}
 
 before-none : (u : Tasks) → jobsBefore u 0 ≡ 0
@@ -89,15 +89,9 @@ job-low h p t a n pt dt dp la ln =
 
 module _ (s : Set) (f : Sound s) (k q n : ℕ) (lk : k < s .patterns .count) (lq : q < pairCount (s .patterns) k)
     (ln : n < repeats (s .tasks) (s .patterns) k) where
-  -- the jobs of a link that is counted in a cycle are jobs of that cycle
+  -- the first job of a link that is counted in a cycle is a job of that cycle
   pub from-job-low : linkFrom (s .tasks) (s .patterns) k q n < jobsOf (s .tasks) (fromTask (s .patterns) k)
   unfolding linkFrom jobsOf repeats
   from-job-low =
       job-low (cycle (s .tasks)) (common (s .tasks) (s .patterns) k) (period (s .tasks) (fromTask (s .patterns) k)) (pairFirst (s .patterns) k q) n
       (f .some-period (fromTask (s .patterns) k) (f .from-low k lk)) (f .from-divides k lk) (f .whole k lk) (f .first-low k q lk lq) ln
-
-  pub to-job-low : linkTo (s .tasks) (s .patterns) k q n < jobsOf (s .tasks) (toTask (s .patterns) k)
-  unfolding linkTo jobsOf repeats
-  to-job-low =
-      job-low (cycle (s .tasks)) (common (s .tasks) (s .patterns) k) (period (s .tasks) (toTask (s .patterns) k)) (pairSecond (s .patterns) k q) n
-      (f .some-period (toTask (s .patterns) k) (f .to-low k lk)) (f .to-divides k lk) (f .whole k lk) (f .second-low k q lk lq) ln

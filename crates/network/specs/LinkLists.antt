@@ -1,18 +1,18 @@
--- The links of a cycle written into a row, one after another, and why they are those of the set.
+-- The links within one block written into a row, one after another, and why they are those of the set.
 use mathlib.Core.Path.{_≡_, refl, sym, ap, ap₂, _∙_, fun-ext, subst}
 use mathlib.Core.List.{List, [], _∷_, _++_}
 use mathlib.Core.Logic.{_⊎_, inl, inr}
-use Prim.Native.Nat.{ℕ, suc, _+_, _-_, _*_, _/_, _≤_, _<_}
+use Prim.Native.Nat.{ℕ, suc, _+_, _-_, _*_, _/_, _≤_, _<_, _∣_}
 use native.Mathlib.Nat.{mul-le-mul, le-refl, div-le-self, le-of-dvd}
 use native.Mathlib.Numerals.{add-one}
 use native.Mathlib.Omega.{arith}
 use lib.ListN.{length, getD, set, take, length-append, List·getD-append}
 use lib.Seq.{getD-append-add, getD-take}
 use Rattle.vocabulary.specs.Test.{lt-or-le}
-use Rattle.vocabulary.specs.Total.{total, total-none, total-same, total-more, total-up}
+use Rattle.vocabulary.specs.Total.{total, total-none, total-more, total-mono, total-up}
 use Rattle.vocabulary.specs.Multiple.{lcm, lcm-pos}
 use Rattle.vocabulary.specs.Table.{table, is-table, length-table, getD-table, join, Filling, is, fill-from, fill-on}
-use Rattle.vocabulary.specs.Lists.{length-join, length-join-even, join-same}
+use Rattle.vocabulary.specs.Lists.{length-join, length-join-most, join-same}
 use Rattle.vocabulary.specs.Prefix.{taken}
 use Rattle.graph.specs.Graph.{Graph, LinksInside, graphOf}
 use Rattle.graph.specs.Column.{column, column-long, column-at}
@@ -25,17 +25,18 @@ use Rattle.kinds.specs.declared.Pattern.{Pattern}
 use Rattle.kinds.specs.declared.Pair.{Pair}
 use Rattle.kinds.specs.Tasks.{Tasks, Patterns, Set, taskAt, period, fromTask, toTask, pairCount, pairsBefore, firstIn}
 use Rattle.kinds.specs.Tasks.{secondIn, pairFirst, pairSecond, taskIn, patternIn, pairIn, task-in, pattern-in, pair-in}
-use Rattle.kinds.specs.RangeLaws.{holds-yes, pairs-none, pairs-more}
+use Rattle.kinds.specs.RangeLaws.{holds-yes, pairs-none, pairs-more, reach-low}
 use Rattle.kinds.specs.Cycle.{multipleOf, cycle, jobsOf, jobsBefore, jobs}
 use Rattle.kinds.specs.Jobs.{numberOfJob}
 use Rattle.kinds.specs.Links.{common, linkFrom, linkTo, repeats, linksOf, links}
 use Rattle.kinds.proofs.SoundFacts.{Sound, some-repeats}
-use Rattle.laws.specs.Order.{before-up, from-job-low, to-job-low}
+use Rattle.laws.specs.Order.{before-up}
+use Rattle.laws.specs.Blocks.{roundOf, jobs-in-rounds, some-round, round-low}
 use Rattle.network.specs.declared.Stride.{Stride}
 use Rattle.network.specs.Network.{Link, noLink, linkOf, pairLinks, patternLinks, cycleLinks, linkStarts, linkEnds, network}
-use Rattle.network.specs.NetworkLaws.{pair-links, links-length, inside-network}
+use Rattle.network.specs.NetworkLaws.{pair-links, links-few, inside-network}
 use Rattle.network.specs.Tables.{tableTasks, tablePatterns, tableSet, Numbered, numbered-sound}
-use Rattle.network.specs.Placed.{Placed, place-from, place-on}
+use Rattle.network.specs.Placed.{Placed, place-from, place-on, place-end}
 
 -- a link as it stands in a row
 abbrev pub rowOf : Link → List ℕ
@@ -89,6 +90,18 @@ append-join F e v = append-none e v
 abbrev pub strideOf : ℕ → ℕ → ℕ → ℕ → ℕ → Stride
 strideOf h s t x y = record { repeats = h / lcm s t; from = x; along = lcm s t / s; to = y; across = lcm s t / t }
 
+-- how many links of a pair with the second number b lie within the block: all but one for each round that b leads on
+unfoldable pub turnsOf : Stride → ℕ → ℕ
+turnsOf s b = s .repeats - b / s .across
+
+pub turns-are : (s : Stride) (b : ℕ) {w : ℕ} → w ≡ b / s .across → s .repeats - w ≡ turnsOf s b
+unfolding turnsOf
+turns-are s b e = rw e
+
+turns-few : (s : Stride) (b : ℕ) → turnsOf s b ≤ s .repeats
+unfolding turnsOf
+turns-few s b = omega arith
+
 abbrev pub stepLink : Stride → ℕ → ℕ → ℕ → Link
 stepLink s a b n = record { from = s .from + a + n * s .along; to = s .to + b + n * s .across }
 
@@ -98,6 +111,8 @@ stepRow s a b n = rowOf (stepLink s a b n)
 -- what writing the links of one pair asks of a row of so many places
 pub record StepsAsked (e : ℕ) (s : Stride) (a b size : ℕ) : Type 0 where
   pub room : e + s .repeats ≤ size
+  pub some : 0 < s .across
+  pub reach : b / s .across ≤ s .repeats
   pub low₁ : s .from + a + s .repeats * s .along < 65536
   pub low₂ : s .to + b + s .repeats * s .across < 65536
 
@@ -112,63 +127,81 @@ pub steps-from : (e c x₀ y₀ dx dy : ℕ) (v : List (List ℕ)) → StepsMade
 steps-from e c x₀ y₀ dx dy v =
     record { within = omega arith; next₁ = omega arith; next₂ = omega arith; done = place-from e (λ k. (x₀ + k * dx) ∷ (y₀ + k * dy) ∷ []) v }
 
-module _ (e : ℕ) (s : Stride) (a b : ℕ) (v v′ : List (List ℕ)) (x y n : ℕ) (q : StepsAsked e s a b (length v))
-    (p : StepsMade e (s .repeats) (s .from + a) (s .to + b) (s .along) (s .across) v v′ x y n) (l : n < s .repeats) where
+module _ (e : ℕ) (s : Stride) (a b : ℕ) (v v′ : List (List ℕ)) (x y n c : ℕ) (q : StepsAsked e s a b (length v))
+    (ec : c ≡ turnsOf s b) (p : StepsMade e c (s .from + a) (s .to + b) (s .along) (s .across) v v′ x y n) (l : n < c) where
+  turn : suc n ≤ s .repeats
+  turn = omega (arith, ec, turns-few s b)
+
   pub steps-low₁ : x + s .along < 65536
-  steps-low₁ = omega (arith, p .next₁, q .low₁, mul-le-mul (let g : suc n ≤ s .repeats = omega arith in g) (le-refl (s .along)))
+  steps-low₁ = omega (arith, p .next₁, q .low₁, mul-le-mul turn (le-refl (s .along)))
 
   pub steps-low₂ : y + s .across < 65536
-  steps-low₂ = omega (arith, p .next₂, q .low₂, mul-le-mul (let g : suc n ≤ s .repeats = omega arith in g) (le-refl (s .across)))
+  steps-low₂ = omega (arith, p .next₂, q .low₂, mul-le-mul turn (le-refl (s .across)))
 
   pub steps-place : e + n < length v′
-  steps-place = omega (arith, q .room, p .done .long)
+  steps-place = omega (arith, turn, q .room, p .done .long)
 
-  pub steps-on : StepsMade e (s .repeats) (s .from + a) (s .to + b) (s .along) (s .across) v (set v′ (e + n) (x ∷ y ∷ [])) (x + s .along) (y + s .across) (n + 1)
+  pub steps-on : StepsMade e c (s .from + a) (s .to + b) (s .along) (s .across) v (set v′ (e + n) (x ∷ y ∷ [])) (x + s .along) (y + s .across) (n + 1)
   steps-on =
       record {
         within = omega arith;
         next₁ = omega (arith, p .next₁);
         next₂ = omega (arith, p .next₂);
-        done = place-on e n (stepRow s a b) v v′ (x ∷ y ∷ []) (p .done) (omega (arith, q .room)) (ap₂ (λ (c d : ℕ). c ∷ d ∷ []) (p .next₁) (p .next₂));
+        done = place-on e n (stepRow s a b) v v′ (x ∷ y ∷ []) (p .done) (omega (arith, turn, q .room)) (ap₂ (λ (c d : ℕ). c ∷ d ∷ []) (p .next₁) (p .next₂));
       }
+
+-- the rows are those of the pair's links within the block
+pub steps-end : (e : ℕ) (s : Stride) (a b : ℕ) (v v′ : List (List ℕ)) {x y n c : ℕ} → c ≡ turnsOf s b
+    → StepsMade e c (s .from + a) (s .to + b) (s .along) (s .across) v v′ x y n → c ≤ n
+    → (e + n ≡ e + turnsOf s b) × Placed e (turnsOf s b) (stepRow s a b) v v′
+steps-end e s a b v v′ ec p l =
+    (omega (arith, p .within), rw (← ec) (place-end e _ _ (stepRow s a b) v v′ (p .done) (p .within) l))
 
 -- the links of pair q, of which the numbers stand at start + q
 unfoldable pub pairMade : List ℕ → ℕ → Stride → ℕ → List Link
-pairMade ps start s q = table (stepLink s (firstIn ps (start + q)) (secondIn ps (start + q))) (s .repeats)
+pairMade ps start s q = table (stepLink s (firstIn ps (start + q)) (secondIn ps (start + q))) (turnsOf s (secondIn ps (start + q)))
 
 append-pair : (ps : List ℕ) (start : ℕ) (s : Stride) (q e : ℕ) (v v′ : List (List ℕ))
-    → Placed e (s .repeats) (stepRow s (firstIn ps (start + q)) (secondIn ps (start + q))) v v′ → Appended (pairMade ps start s q) e (e + s .repeats) v v′
+    → Placed e (turnsOf s (secondIn ps (start + q))) (stepRow s (firstIn ps (start + q)) (secondIn ps (start + q))) v v′
+    → Appended (pairMade ps start s q) e (e + turnsOf s (secondIn ps (start + q))) v v′
 unfolding pairMade
 append-pair ps start s q e v v′ p =
     record {
       end = omega (arith, long);
       long = p .long;
       there = p .there;
-      here = λ k l. p .here k (omega (arith, long)) ∙ ap rowOf (sym (getD-table link (s .repeats) k noLink (omega (arith, long))));
+      here = λ k l. p .here k (omega (arith, long)) ∙ ap rowOf (sym (getD-table link turns k noLink (omega (arith, long))));
     }
   where
     link : ℕ → Link
     link = stepLink s (firstIn ps (start + q)) (secondIn ps (start + q))
 
-    long : length (table link (s .repeats)) ≡ s .repeats
-    long = length-table link (s .repeats)
+    turns : ℕ
+    turns = turnsOf s (secondIn ps (start + q))
+
+    long : length (table link turns) ≡ turns
+    long = length-table link turns
 
 -- what the links of m pairs ask
 pub record PairsAsked (ps : List ℕ) (start m : ℕ) (s : Stride) (e size : ℕ) : Type 0 where
   pub within : start + m ≤ 1024
   pub room : e + m * s .repeats ≤ size
+  pub some : 0 < s .across
+  pub reach : (q : ℕ) → q < m → secondIn ps (start + q) / s .across ≤ s .repeats
   pub low₁ : (q : ℕ) → q < m → s .from + firstIn ps (start + q) + s .repeats * s .along < 65536
   pub low₂ : (q : ℕ) → q < m → s .to + secondIn ps (start + q) + s .repeats * s .across < 65536
 
-pairs-long : (ps : List ℕ) (start : ℕ) (s : Stride) (q : ℕ) → length (join (pairMade ps start s) q) ≡ q * s .repeats
+pairs-long : (ps : List ℕ) (start : ℕ) (s : Stride) (q : ℕ) → length (join (pairMade ps start s) q) ≤ q * s .repeats
 unfolding pairMade
 pairs-long ps start s q =
-    length-join-even (pairMade ps start s) q (s .repeats) (λ k l. length-table (stepLink s (firstIn ps (start + k)) (secondIn ps (start + k))) (s .repeats))
+    length-join-most (pairMade ps start s) q (s .repeats) (λ k l.
+    let b : ℕ = secondIn ps (start + k) in
+    omega (arith, length-table (stepLink s (firstIn ps (start + k)) b) (turnsOf s b), turns-few s b))
 
 -- the loop has come to pair q, which is p
 module _ (ps : List ℕ) (start m : ℕ) (s : Stride) (e r q : ℕ) (v v′ : List (List ℕ)) (a : PairsAsked ps start m s e (length v))
     (w : Appended (join (pairMade ps start s) q) e r v v′) (l : q < m) where
-  pub pairs-room : r + s .repeats ≤ length v
+  pairs-room : r + s .repeats ≤ length v
   pairs-room =
       omega (arith, a .room, w .end, pairs-long ps start s q, mul-le-mul (let g : suc q ≤ m = omega arith in g) (le-refl (s .repeats)))
 
@@ -179,11 +212,13 @@ module _ (ps : List ℕ) (start m : ℕ) (s : Stride) (e r q : ℕ) (v v′ : Li
     pub pairs-step : StepsAsked r s (p .first) (p .second) (length v′)
     pairs-step =
         let long = w .long in
-        rw pair-is (record { room = omega (arith, pairs-room); low₁ = a .low₁ q l; low₂ = a .low₂ q l })
+        rw pair-is (record { room = omega (arith, pairs-room); some = a .some; reach = a .reach q l; low₁ = a .low₁ q l; low₂ = a .low₂ q l })
 
-    pub pairs-on : (v″ : List (List ℕ)) → Placed r (s .repeats) (stepRow s (p .first) (p .second)) v′ v″
-        → Appended (join (pairMade ps start s) (q + 1)) e (r + s .repeats) v v″
-    pairs-on v″ h = append-next (pairMade ps start s) q e r (r + s .repeats) v v′ v″ w (append-pair ps start s q r v′ v″ (rw pair-is at h))
+    pub pairs-on : {r′ : ℕ} (v″ : List (List ℕ)) → (r′ ≡ r + turnsOf s (p .second)) × Placed r (turnsOf s (p .second)) (stepRow s (p .first) (p .second)) v′ v″
+        → Appended (join (pairMade ps start s) (q + 1)) e r′ v v″
+    pairs-on v″ h =
+        rw (h .0, pair-is)
+        (append-next (pairMade ps start s) q e r (r + turnsOf s (secondIn ps (start + q))) v v′ v″ w (append-pair ps start s q r v′ v″ (rw pair-is at (h .1))))
 
 -- ---- all patterns, from the attributes xs and the first jobs bs of their tasks
 abbrev pub strideAt : ℕ → List ℕ → List ℕ → ℕ → ℕ → Stride
@@ -212,7 +247,9 @@ pub record LinksAsked (h : ℕ) (xs bs : List ℕ) (v : Patterns) (size : ℕ) :
   pub few : v .count ≤ 64
   pub tasks : (k : ℕ) → k < v .count → StrideAsked xs (fromTask v k) (toTask v k)
   pub within : (k : ℕ) → k < v .count → pairsBefore v k + pairCount v k ≤ 1024
-  pub room : (k : ℕ) → k < v .count → length (join (patternMade h xs bs v) (k + 1)) ≤ size
+  pub room : (k : ℕ) → k < v .count → length (join (patternMade h xs bs v) k) + pairCount v k * patternStride h xs bs v k .repeats ≤ size
+  pub some : (k : ℕ) → k < v .count → 0 < patternStride h xs bs v k .across
+  pub reach : (k q : ℕ) → k < v .count → q < pairCount v k → pairSecond v k q / patternStride h xs bs v k .across ≤ patternStride h xs bs v k .repeats
   pub low₁ : (k q : ℕ) → k < v .count → q < pairCount v k
       → patternStride h xs bs v k .from + pairFirst v k q + patternStride h xs bs v k .repeats * patternStride h xs bs v k .along < 65536
   pub low₂ : (k q : ℕ) → k < v .count → q < pairCount v k
@@ -243,23 +280,16 @@ module _ (h : ℕ) (xs bs : List ℕ) (v : Patterns) (r r′ : List (List ℕ)) 
     count-here = em ∙ ap (λ (x : Pattern). x .pairs) pattern-is
 
     pub spread-asks : PairsAsked (v .pairs) used m s e (length r′)
-    unfolding patternMade
     spread-asks =
         rw (count-here, stride-here, p .used-is)
-        (record { within = a .within k l; room = room; low₁ = λ q lq. a .low₁ k q l lq; low₂ = λ q lq. a .low₂ k q l lq })
-      where
-        room : e + pairCount v k * patternStride h xs bs v k .repeats ≤ length r′
-        room =
-            omega (
-              arith,
-              a .room k l,
-              p .made .end,
-              p .made .long,
-              length-join (patternMade h xs bs v) (k + 1),
-              length-join (patternMade h xs bs v) k,
-              total-more (λ j. length (patternMade h xs bs v j)) k,
-              pairs-long (v .pairs) (pairsBefore v k) (patternStride h xs bs v k) (pairCount v k),
-            )
+        (record {
+          within = a .within k l;
+          room = omega (arith, a .room k l, p .made .end, p .made .long);
+          some = a .some k l;
+          reach = λ q lq. a .reach k q l lq;
+          low₁ = λ q lq. a .low₁ k q l lq;
+          low₂ = λ q lq. a .low₂ k q l lq;
+        })
 
     pub spread-room : used + m ≤ 1024
     spread-room = omega (arith, count-here, p .used-is, a .within k l)
@@ -391,41 +421,46 @@ module _ (s : Set) (sound : Sound s) (bs : List ℕ) (based : FirstNumbers (cycl
 
   -- ==== they are the set's
   made-links : madeLinks (cycle (s .tasks)) (s .tasks .attributes) bs (s .patterns) ≡ cycleLinks (s .tasks) (s .patterns)
-  unfolding madeLinks patternMade pairMade cycleLinks patternLinks repeats common
+  unfolding madeLinks patternMade pairMade turnsOf cycleLinks patternLinks repeats common roundOf
   made-links =
       join-same (patternMade (cycle u) xs bs v) (patternLinks u v) (v .count) (λ k lk.
       join-same (pairMade (v .pairs) (pairsBefore v k) (patternStride (cycle u) xs bs v k)) (pairLinks u v k) (pairCount v k) (λ q lq.
-      ap (λ (f : ℕ → Link). table f (repeats u v k)) (fun-ext (λ n. one-link k q n lk)) ∙ sym (pair-links s sound k q lk lq)))
+      ap (λ (f : ℕ → Link). table f (repeats u v k - roundOf u v k q)) (fun-ext (λ n. one-link k q n lk)) ∙ sym (pair-links s sound k q lk lq)))
 
-  pattern-long : (k : ℕ) → length (patternMade (cycle (s .tasks)) (s .tasks .attributes) bs (s .patterns) k) ≡ linksOf (s .tasks) (s .patterns) k
+  pattern-long : (k : ℕ) → length (patternMade (cycle (s .tasks)) (s .tasks .attributes) bs (s .patterns) k) ≤ linksOf (s .tasks) (s .patterns) k
   unfolding patternMade linksOf repeats common
   pattern-long k = pairs-long (v .pairs) (pairsBefore v k) (patternStride (cycle u) xs bs v k) (pairCount v k)
 
   made-room : (size : ℕ) → links (s .tasks) (s .patterns) ≤ size → (k : ℕ) → k < s .patterns .count
-      → length (join (patternMade (cycle (s .tasks)) (s .tasks .attributes) bs (s .patterns)) (k + 1)) ≤ size
+      → length (join (patternMade (cycle (s .tasks)) (s .tasks .attributes) bs (s .patterns)) k) + linksOf (s .tasks) (s .patterns) k ≤ size
   unfolding links
   made-room size fits k l =
       omega (
         arith,
-        length-join (patternMade (cycle u) xs bs v) (k + 1),
-        total-same (λ j. length (patternMade (cycle u) xs bs v j)) (linksOf u v) (k + 1) (λ j lj. pattern-long j),
+        length-join (patternMade (cycle u) xs bs v) k,
+        total-mono (λ j. length (patternMade (cycle u) xs bs v j)) (linksOf u v) k (λ j lj. pattern-long j),
+        total-more (linksOf u v) k,
         total-up (linksOf u v) (k + 1) (v .count) (omega arith),
         fits,
       )
 
-  -- a step over all repeats stays low: the last link's job is one of the cycle
-  far : (p t a b m : ℕ) → 0 < m → a + (m - 1) * (p / t) < cycle (s .tasks) → p ≤ 6000 → b ≤ 2048 → b + a + m * (p / t) < 65536
-  far p t a b m some low lp lb =
-      let c : ℕ = p / t in
-      let e : m * c ≡ (m - 1) * c + c = let g : m ≡ m - 1 + 1 = omega arith in omega (arith, ap (λ (x : ℕ). x * c) g) in
-      omega (arith, div-le-self p t, sound .low-cycle)
-
-  first-low : (i : ℕ) → i < s .tasks .count → at bs i ≤ 2048
-  unfolding jobs
-  first-low i l = omega (arith, first-job i l, before-up u i (u .count) (omega arith), sound .few-jobs)
+  -- a step over all repeats stays low: it goes through the jobs of one cycle
+  far : (i k a : ℕ) → i < s .tasks .count → k < s .patterns .count → period (s .tasks) i ∣ common (s .tasks) (s .patterns) k → a ≤ 12000
+      → at bs i + a + repeats (s .tasks) (s .patterns) k * (common (s .tasks) (s .patterns) k / period (s .tasks) i) < 65536
+  unfolding repeats jobs
+  far i k a li lk d la =
+      omega (
+        arith,
+        jobs-in-rounds (cycle u) (common u v k) (period u i) (sound .some-period i li) d (sound .whole k lk),
+        div-le-self (cycle u) (period u i),
+        sound .low-cycle,
+        first-job i li,
+        before-up u i (u .count) (omega arith),
+        sound .few-jobs,
+      )
 
   links-asked : (size : ℕ) → links (s .tasks) (s .patterns) ≤ size → LinksAsked (cycle (s .tasks)) (s .tasks .attributes) bs (s .patterns) size
-  unfolding common repeats linkFrom linkTo jobsOf
+  unfolding common repeats linksOf roundOf
   links-asked size fits =
       record {
         few = sound .few-patterns;
@@ -439,33 +474,29 @@ module _ (s : Set) (sound : Sound s) (bs : List ℕ) (based : FirstNumbers (cycl
         };
         within = sound .room;
         room = made-room size fits;
+        some = λ k l. some-round s sound k l;
+        reach = λ k q l lq. omega (arith, round-low s sound k l q lq, some-repeats s sound k l);
         low₁ = λ k q l lq.
-            far (common u v k) (period u (fromTask v k)) (pairFirst v k q) (at bs (fromTask v k)) (repeats u v k) (some-repeats s sound k l)
-            (omega (
-              arith,
-              from-job-low s sound k q (repeats u v k - 1) l lq (omega (arith, some-repeats s sound k l)),
-              div-le-self (cycle u)
-                  (period u (fromTask v k)),
-            ))
-            (common-low k l) (first-low (fromTask v k) (sound .from-low k l));
-        low₂ = λ k q l lq.
-            far (common u v k) (period u (toTask v k)) (pairSecond v k q) (at bs (toTask v k)) (repeats u v k) (some-repeats s sound k l)
-            (omega (
-              arith,
-              to-job-low s sound k q (repeats u v k - 1) l lq (omega (arith, some-repeats s sound k l)),
-              div-le-self (cycle u)
-                  (period u (toTask v k)),
-            ))
-            (common-low k l) (first-low (toTask v k) (sound .to-low k l));
+            far (fromTask v k) k (pairFirst v k q) (sound .from-low k l) l (sound .from-divides k l)
+            (omega (arith, sound .first-low k q l lq, div-le-self (common u v k) (period u (fromTask v k)), common-low k l));
+        low₂ = λ k q l lq. far (toTask v k) k (pairSecond v k q) (sound .to-low k l) l (sound .to-divides k l) (second-low k q l lq);
       }
     where
       common-low : (k : ℕ) → k < v .count → common u v k ≤ 6000
       common-low k l = omega (arith, le-of-dvd (sound .some-cycle) (sound .whole k l), sound .low-cycle)
 
--- ---- the first e places of a row hold the links of the cycle
+      second-low : (k q : ℕ) → k < v .count → q < pairCount v k → pairSecond v k q ≤ 12000
+      second-low k q l lq =
+          omega (
+            arith,
+            sound .second-low k q l lq,
+            reach-low (s .edition) (common u v k / period u (toTask v k)) refl (omega (arith, div-le-self (common u v k) (period u (toTask v k)), common-low k l)),
+          )
+
+-- ---- the first e places of a row hold the links within the block
 pub record Wired (s : Set) (e : ℕ) (v : List (List ℕ)) : Type 0 where
   pub fits : e ≤ length v
-  pub count : e ≡ links (s .tasks) (s .patterns)
+  pub few : e ≤ links (s .tasks) (s .patterns)
   pub from : starts (take e v) ≡ linkStarts (s .tasks) (s .patterns)
   pub to : ends (take e v) ≡ linkEnds (s .tasks) (s .patterns)
 
@@ -495,10 +526,11 @@ module _ (f : Counts) (xs hs ps : List ℕ) (r : List (List ℕ)) (a : ExpandAsk
         let gs : List Link = cycleLinks (tableTasks f xs) (tablePatterns f hs ps) in
         let p : Appended gs 0 e r r′ = rw (a .numbers .ticks, made-links (tableSet f xs hs ps) sound bs based) at q in
         let n : e ≡ length gs = omega (arith, p .end) in
-        let few : e ≤ length r′ = omega (arith, links-length (tableSet f xs hs ps) sound, a .room, p .long) in
+        let most = links-few (tableTasks f xs) (tablePatterns f hs ps) in
+        let few : e ≤ length r′ = omega (arith, most, a .room, p .long) in
         record {
           fits = few;
-          count = omega (arith, links-length (tableSet f xs hs ps) sound);
+          few = omega (arith, most);
           from =
               is-table (λ x. getD gs x noLink .from) (length gs) 0 (starts (take e r′))
               (column-long 0 (take e r′) ∙ taken e (length r′) r′ refl few ∙ n) (λ i l. one 0 (λ (z : Link). z .from) (λ z. refl) e r′ p i l n);

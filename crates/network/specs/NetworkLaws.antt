@@ -1,50 +1,50 @@
 -- Laws of the network: where each link comes from, how many there are, and that their ends are jobs of the cycle.
 use mathlib.Core.Path.{_≡_, refl, ap, _∙_}
 use mathlib.Core.Bool.{true}
-use Prim.Native.Nat.{ℕ, _<_}
+use Prim.Native.Nat.{ℕ, _-_, _<_, _≤_}
 use native.Mathlib.Omega.{arith}
 use lib.Dec.{ltb}
 use lib.ListN.{length, getD}
-use borrow.Author.Tests.{lt-ltb, ltb-true}
+use borrow.Author.Tests.{ltb-true}
 use Rattle.vocabulary.specs.Test.{both}
-use Rattle.vocabulary.specs.Total.{total-same}
-use Rattle.vocabulary.specs.Table.{table, gather-all, length-table, getD-table}
-use Rattle.vocabulary.specs.Lists.{each-join, each-gather, length-join, length-join-even, Stands, stands-join, stands-gather}
+use Rattle.vocabulary.specs.Count.{count-le}
+use Rattle.vocabulary.specs.Total.{total-mono}
+use Rattle.vocabulary.specs.Table.{table, gather-first, length-table, getD-table}
+use Rattle.vocabulary.specs.Lists.{each-join, each-gather, length-join, length-join-most, length-gather, Stands, stands-join, stands-gather}
 use Rattle.graph.specs.Graph.{LinksInside}
 use Rattle.kinds.specs.Tasks.{Tasks, Patterns, Set, fromTask, toTask, pairCount}
 use Rattle.kinds.specs.Cycle.{jobs, jobsOf}
 use Rattle.kinds.specs.Jobs.{numberOfJob}
 use Rattle.kinds.specs.Links.{linkFrom, linkTo, repeats, linksOf, links, inner}
 use Rattle.kinds.proofs.SoundFacts.{Sound}
-use Rattle.laws.specs.Order.{number-low, from-job-low, to-job-low}
+use Rattle.laws.specs.Order.{number-low}
+use Rattle.laws.specs.Blocks.{roundOf, stays, leaves}
 use Rattle.network.specs.Network.{Link, noLink, linkOf, pairLinks, patternLinks, cycleLinks, linkStarts, linkEnds, network}
 
--- ---- every link of a cycle lies within one block of H, so a pair makes all its links
-module _ (s : Set) (f : Sound s) where
-  pub all-inner : (k q n : ℕ) → k < s .patterns .count → q < pairCount (s .patterns) k → n < repeats (s .tasks) (s .patterns) k
-      → inner (s .tasks) (s .patterns) k q n ≡ true
-  unfolding inner
-  all-inner k q n lk lq ln = rw (lt-ltb _ _ (from-job-low s f k q n lk lq ln), lt-ltb _ _ (to-job-low s f k q n lk lq ln))
+-- ---- a pair makes the first of its links, as many as lie within the block
+pub pair-links : (s : Set) → Sound s → (k q : ℕ) → k < s .patterns .count → q < pairCount (s .patterns) k
+    → pairLinks (s .tasks) (s .patterns) k q ≡ table (linkOf (s .tasks) (s .patterns) k q) (repeats (s .tasks) (s .patterns) k - roundOf (s .tasks) (s .patterns) k q)
+unfolding pairLinks
+pair-links s f k q lk lq =
+    gather-first (linkOf (s .tasks) (s .patterns) k q) (inner (s .tasks) (s .patterns) k q)
+    (repeats (s .tasks) (s .patterns) k - roundOf (s .tasks) (s .patterns) k q) (repeats (s .tasks) (s .patterns) k)
+    (omega arith) (λ n l. stays s f k lk q lq n (omega arith)) (λ n l. leaves s f k lk q lq n (omega arith))
 
-  pub pair-links : (k q : ℕ) → k < s .patterns .count → q < pairCount (s .patterns) k
-      → pairLinks (s .tasks) (s .patterns) k q ≡ table (linkOf (s .tasks) (s .patterns) k q) (repeats (s .tasks) (s .patterns) k)
-  unfolding pairLinks
-  pair-links k q lk lq =
-      gather-all (linkOf (s .tasks) (s .patterns) k q) (inner (s .tasks) (s .patterns) k q) (repeats (s .tasks) (s .patterns) k)
-      (λ n ln. all-inner k q n lk lq ln)
+-- ---- the links within the block are no more than rule 9 counts
+pattern-links-few : (u : Tasks) (v : Patterns) (k : ℕ) → length (patternLinks u v k) ≤ linksOf u v k
+unfolding patternLinks linksOf pairLinks
+pattern-links-few u v k =
+    length-join-most (pairLinks u v k) (pairCount v k) (repeats u v k)
+    (λ q l. omega (arith, length-gather (linkOf u v k q) (inner u v k q) (repeats u v k), count-le (inner u v k q) 0 (repeats u v k)))
 
-  pub pattern-links-length : (k : ℕ) → k < s .patterns .count → length (patternLinks (s .tasks) (s .patterns) k) ≡ linksOf (s .tasks) (s .patterns) k
-  unfolding patternLinks linksOf
-  pattern-links-length k lk =
-      length-join-even (pairLinks (s .tasks) (s .patterns) k) (pairCount (s .patterns) k) (repeats (s .tasks) (s .patterns) k)
-      (λ q lq. ap length (pair-links k q lk lq) ∙ length-table (linkOf (s .tasks) (s .patterns) k q) (repeats (s .tasks) (s .patterns) k))
-
-  -- the links of a cycle are as many as rule 9 counts
-  pub links-length : length (cycleLinks (s .tasks) (s .patterns)) ≡ links (s .tasks) (s .patterns)
-  unfolding cycleLinks links
-  links-length =
-      length-join (patternLinks (s .tasks) (s .patterns)) (s .patterns .count)
-      ∙ total-same (λ k. length (patternLinks (s .tasks) (s .patterns) k)) (linksOf (s .tasks) (s .patterns)) (s .patterns .count) pattern-links-length
+pub links-few : (u : Tasks) (v : Patterns) → length (cycleLinks u v) ≤ links u v
+unfolding cycleLinks links
+links-few u v =
+    omega (
+      arith,
+      length-join (patternLinks u v) (v .count),
+      total-mono (λ k. length (patternLinks u v k)) (linksOf u v) (v .count) (λ k l. pattern-links-few u v k),
+    )
 
 -- ---- where a link comes from
 -- a fact of every link, from every pair's

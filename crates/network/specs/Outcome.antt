@@ -148,7 +148,7 @@ module _ (f : Counts) (xs hs ps : List ℕ) (n : Numbered f xs hs ps) where
 
   module _ (e : ℕ) (v : List (List ℕ)) (w : Wired (tableSet f xs hs ps) e v) where
     pub wired-few : e ≤ 4096
-    wired-few = omega (arith, w .count, sound-set .few-links)
+    wired-few = omega (arith, w .few, sound-set .few-links)
 
     pub solve-asked : (m size most : ℕ) (next : List ℕ) (rows : List (List ℕ)) → length next ≡ size → length rows ≡ most → e ≤ size → m ≡ f .jobs → m ≤ most
         → SolveAsked (tableTasks f xs) (f .ticks) (take e v) (take e next) (take m rows)

@@ -1,10 +1,11 @@
-// The links of a cycle between its jobs, in a row: where each comes from, and where it leads.
+// The links within one block between its jobs, in a row: where each comes from, and where it leads.
 ghost use mathlib.Core.Path.{_≡_};
+ghost use Prim.Native.Nat.{_+_};
 ghost use lib.ListN.{length};
 ghost use Rattle.vocabulary.specs.Table.{join};
 ghost use Rattle.network.specs.Tables.{tableTasks, tablePatterns, tableSet};
 ghost use Rattle.network.specs.Placed.{Placed};
-ghost use Rattle.network.specs.LinkLists.{Appended, strideAt, stepRow, StepsAsked, pairMade, PairsAsked, madeLinks, StrideAsked, LinksAsked, BasesAsked, FirstNumbers, Wired, ExpandAsked};
+ghost use Rattle.network.specs.LinkLists.{Appended, strideAt, turnsOf, stepRow, StepsAsked, pairMade, PairsAsked, madeLinks, StrideAsked, LinksAsked, BasesAsked, FirstNumbers, Wired, ExpandAsked};
 use crate::Stride;
 use kinds::Attributes;
 use kinds::Counts;
@@ -13,12 +14,12 @@ use kinds::Pairs;
 use kinds::Pattern;
 use kinds::wide;
 
-// The links of the pair with numbers a and b, from place e on.
-fn put_steps(links: &mut [[u16; 2]], e: usize, s: Stride, a: u32, b: u32)
+// The links of the pair with numbers a and b that lie within the block, from place e on; where they end. The last rounds, as many as b leads on, lead out of it.
+fn put_steps(links: &mut [[u16; 2]], e: usize, s: Stride, a: u32, b: u32) -> usize
     requires { ⌜ StepsAsked e s a b (length (now links)) ⌝ }
-    ensures { λ r. ⌜ Placed e (s .repeats) (stepRow s a b) (now (links .entry)) (now (links .exit)) ⌝ }
+    ensures { λ r. ⌜ (r ≡ e + turnsOf s b) × Placed e (turnsOf s b) (stepRow s a b) (now (links .entry)) (now (links .exit)) ⌝ }
 {
-    let c = s.repeats;
+    let c = s.repeats - wide(b / s.across);
     let dx = s.along;
     let dy = s.across;
     let mut x = s.from + a;
@@ -30,6 +31,7 @@ fn put_steps(links: &mut [[u16; 2]], e: usize, s: Stride, a: u32, b: u32)
         y += dy;
         n += 1;
     }
+    e + n
 }
 
 // The links of m pairs, one pair after another, from place e on; where they end.
@@ -44,13 +46,11 @@ fn put_pairs(
     requires { ⌜ PairsAsked (now pairs) start m s e (length (now links)) ⌝ }
     ensures { λ r. ⌜ Appended (join (pairMade (now (pairs .entry)) start s) m) e r (now (links .entry)) (now (links .exit)) ⌝ }
 {
-    let c = s.repeats;
     let mut at = e;
     let mut q: usize = 0;
     while q < m {
         let p = kinds::pair_at(pairs, start + q);
-        put_steps(links, at, s, p.first, p.second);
-        at += c;
+        at = put_steps(links, at, s, p.first, p.second);
         q += 1;
     }
     at
@@ -122,7 +122,7 @@ fn put_patterns(
     e
 }
 
-// The links of a cycle; how many there are.
+// The links within one block; how many there are.
 pub(crate) fn expand(
     f: Counts,
     attributes: &Attributes,

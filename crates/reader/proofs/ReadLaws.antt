@@ -12,7 +12,8 @@ use lib.ListN.{length, getD}
 use Rattle.vocabulary.specs.Test.{pick, missed, both, clash}
 use Rattle.slots.specs.High.{high}
 use Rattle.kinds.specs.declared.TaskSet.{TaskSet}
-use Rattle.kinds.specs.Limits.{holds, editions, taskCounts}
+use Rattle.kinds.specs.Limits.{holds, taskCounts}
+use Rattle.kinds.specs.Editions.{editions}
 use Rattle.kinds.specs.Tasks.{view}
 use Rattle.kinds.specs.Cycle.{cycle, jobs}
 use Rattle.kinds.specs.Sound.{openingFits, sound}

@@ -1,4 +1,4 @@
-// The reader of plan files, edition 1.
+// The reader of plan files.
 ghost use mathlib.Core.Path.{_≡_};
 ghost use mathlib.Core.Bool.{true};
 ghost use Prim.Native.Nat.{_*_, _-_, _≤_, min};

@@ -11,11 +11,13 @@ use Rattle.kinds.specs.declared.Key.{Key}
 use Rattle.kinds.specs.declared.Task.{Task}
 use Rattle.kinds.specs.declared.Cycle.{Cycle}
 use Rattle.kinds.specs.declared.Counts.{Counts}
-use Rattle.kinds.specs.Limits.{Range, range, editions, taskCounts, processorCounts, patternCounts, periods, runnings, offsets, deadlines, mostPairs}
+use Rattle.kinds.specs.Limits.{Range, range, taskCounts, processorCounts, patternCounts, periods, runnings, offsets, deadlines, mostPairs}
+use Rattle.kinds.specs.Editions.{editions}
 use Rattle.kinds.specs.Limits.{noKey, after, firstRange, secondRange}
 use Rattle.kinds.specs.Tasks.{Tasks, taskOf, tasksOf, putTask, putPair}
 use Rattle.kinds.specs.Cycle.{cycleFits, cycleIs}
 use Rattle.kinds.specs.Links.{linksIn}
+use Rattle.kinds.specs.RangeLaws.{spans-low}
 use Rattle.numbers.specs.declared.Refusal.{Refusal}
 use Rattle.numbers.specs.declared.Refusal.the-variants as refusal
 use Rattle.numbers.specs.declared.Got.the-variants as got
@@ -38,7 +40,7 @@ use Rattle.heads.specs.Tables.{PatternTables, withPattern, progress, PatternsRe
 use Rattle.heads.specs.Heads.{openingOf, middleFrom, onOpening, onTasks, onMiddle, onPatterns, headFrom}
 use Rattle.heads.proofs.ReadInRange.{went, refused-task, refused-two, refused-heading, refused-opening, refused-middle}
 use Rattle.heads.proofs.ReadSteps.{tasks-went, pairs-went, patterns-went, patterns-rest, HeadWent, head-went}
-use Rattle.heads.proofs.Bounds.{spans-low, heading-bounds, opening-low, middle-low}
+use Rattle.heads.proofs.Bounds.{heading-bounds, opening-low, middle-low}
 use Rattle.theorems.specs.NumberPlaces.{SameTo, same-less, GotRead, got-read}
 
 -- what P reads from place `at` on ends at `next`, at most so many bytes further, and is the same for every file with the same bytes so far
@@ -163,7 +165,7 @@ module _ (s : List ℕ) (low : Key) (la lb x y q : ℕ) (fa : la ≤ 16384) (fb 
       (λ v p₁ g w. (g .read .two (omega (arith, g .in-range .1)), and₁ v p₁ w))
 
 -- ---- pairs
-pairs-place : (s : List ℕ) (la lb : ℕ) → la ≤ 6000 → lb ≤ 6000 → (k at : ℕ) (low : Key) (j : ℕ) (u : List ℕ) (q : ℕ)
+pairs-place : (s : List ℕ) (la lb : ℕ) → la ≤ 6000 → lb ≤ 12000 → (k at : ℕ) (low : Key) (j : ℕ) (u : List ℕ) (q : ℕ)
     → pairsFrom s k at low la lb j u .outcome ≡ outcome.At q → ReadTo s at q (4 * k) (λ t. pairsFrom t k at low la lb j u)
 unfolding pairsFrom onTwo
 pairs-place s la lb ha hb zero at low j u q e = end-place s at q _ (cc e)

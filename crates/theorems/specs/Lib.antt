@@ -29,6 +29,8 @@ pub mod Demand3ForC
 pub mod Accepted
 pub mod Demand2Bytes
 pub mod TicksFell
+pub mod NextRound
+pub mod BothWays
 pub mod ShutOut
 pub mod SameTasks
 pub mod SameVerdict

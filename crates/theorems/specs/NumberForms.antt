@@ -11,7 +11,8 @@ use Rattle.vocabulary.specs.Parts.{PartAt, part-none, part-move, part-both}
 use Rattle.kinds.specs.declared.Key.{Key}
 use Rattle.kinds.specs.declared.Task.{Task}
 use Rattle.kinds.specs.declared.Cycle.{Cycle}
-use Rattle.kinds.specs.Limits.{Range, range, holds, editions, taskCounts, processorCounts, patternCounts, periods, runnings, offsets, deadlines, mostPairs}
+use Rattle.kinds.specs.Limits.{Range, range, holds, taskCounts, processorCounts, patternCounts, periods, runnings, offsets, deadlines, mostPairs}
+use Rattle.kinds.specs.Editions.{editions}
 use Rattle.kinds.specs.Limits.{firstRange, secondRange}
 use Rattle.kinds.specs.Tasks.{Tasks, taskOf}
 use Rattle.kinds.specs.Cycle.{cycleFits}

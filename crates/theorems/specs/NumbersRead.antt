@@ -12,7 +12,8 @@ use Rattle.vocabulary.specs.Parts.{PartAt, part-front, part-back}
 use Rattle.kinds.specs.declared.Key.{Key}
 use Rattle.kinds.specs.declared.Task.{Task}
 use Rattle.kinds.specs.Limits.{Range, range, holds, periods, runnings, offsets, deadlines, firstRange, secondRange, rises}
-use Rattle.kinds.specs.Limits.{editions, taskCounts, processorCounts, fewestPairs}
+use Rattle.kinds.specs.Limits.{taskCounts, processorCounts, fewestPairs}
+use Rattle.kinds.specs.Editions.{editions}
 use Rattle.kinds.specs.Sound.{attributesFit, headingFits, openingFits}
 use Rattle.kinds.specs.RangeLaws.{holds-yes, holds-at}
 use Rattle.numbers.specs.declared.Refusal.{Refusal}
@@ -102,7 +103,7 @@ module _ (file : List ℕ) (at : ℕ) (t : Task) where
 
 -- ---- two numbers in order
 module _ (file : List ℕ) (at : ℕ) (low : Key) (la lb x y : ℕ) where
-  pub two-read : rises low la lb x y ≡ true → la ≤ 6000 → lb ≤ 6000 → PartAt file at (bytesIn (x ∷ y ∷ []))
+  pub two-read : rises low la lb x y ≡ true → la ≤ 6000 → lb ≤ 12000 → PartAt file at (bytesIn (x ∷ y ∷ []))
       → twoAt file at low la lb ≡ two.Both x y (at + length (bytesIn (x ∷ y ∷ [])))
   unfolding rises twoAt andThen
   two-read e ha hb p =
@@ -148,7 +149,7 @@ module _ (file : List ℕ) (e n m : ℕ) where
   opening-read h p =
       let w = both {a = holds editions e} h in
       let x = both {a = holds taskCounts n} (w .1) in
-      let a = holds-at 1 2 e (w .0) in
+      let a = holds-at 1 3 e (w .0) in
       let b = holds-at 1 65 n (x .0) in
       let d = holds-at 1 9 m (x .1) in
       let q₁ : PartAt file (past 0 e) (bytesIn (n ∷ m ∷ [])) = rest file 0 e (n ∷ m ∷ []) p in

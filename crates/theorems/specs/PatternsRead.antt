@@ -16,6 +16,7 @@ use Rattle.kinds.specs.Limits.{noKey, after}
 use Rattle.kinds.specs.Tasks.{Tasks, Patterns, tasksOf, period, fromTask, toTask, pairCount, pairsBefore}
 use Rattle.kinds.specs.Cycle.{cycle}
 use Rattle.kinds.specs.Links.{common, firstReach, reach, repeats, linksOf, links, spansOf, linksIn}
+use Rattle.kinds.specs.RangeLaws.{spans-low}
 use Rattle.kinds.specs.Sound.{pairKey, pairFits, patternKey, headingFits, patternFits}
 use Rattle.kinds.proofs.PatternWalk.{HeadingFacts, heading-facts, pattern-key-more, before-more, spans-at, links-at}
 use Rattle.heads.specs.declared.Heading.the-variants as heading
@@ -24,7 +25,6 @@ use Rattle.heads.specs.declared.Linked.the-variants as linked
 use Rattle.heads.specs.declared.Progress.{Progress}
 use Rattle.heads.specs.Tables.{pairsFrom, headingAt, PatternTables, progress, PatternRead, PatternsRead, onHeading, onPairs, patternFrom}
 use Rattle.heads.specs.Tables.{onPattern, patternsFrom}
-use Rattle.heads.proofs.Bounds.{spans-low}
 use Rattle.writer.specs.FormatLaws.{pairBytes, patternBytes, headingBytes, pattern-bytes}
 use Rattle.theorems.specs.NumbersRead.{heading-read}
 use Rattle.theorems.specs.TablesRead.{Copied, heading-more, PairsCome, pairs-read}

@@ -118,7 +118,7 @@ module _ (file : List ℕ) (v : Patterns) (k start : ℕ) where
     pub to : r .outcome ≡ outcome.At (start + length (join (pairBytes v k) (pairCount v k)))
     pub table : Copied (v .pairs) 2048 (2 * (pairsBefore v k + pairCount v k)) (r .table)
 
-  module _ (la lb : ℕ) (ha : la ≤ 6000) (hb : lb ≤ 6000) (room : pairsBefore v k + pairCount v k ≤ 1024)
+  module _ (la lb : ℕ) (ha : la ≤ 6000) (hb : lb ≤ 12000) (room : pairsBefore v k + pairCount v k ≤ 1024)
       (fit : all (pairFits (v .pairs) (pairsBefore v k) la lb) (pairCount v k) ≡ true) (part : PartAt file start (join (pairBytes v k) (pairCount v k))) where
     pub pairs-read : (j q x at : ℕ) (low : Key) (t : List ℕ) → q + j ≡ pairCount v k → x ≡ pairsBefore v k + q → at ≡ start + length (join (pairBytes v k) q)
         → low ≡ pairKey (v .pairs) (pairsBefore v k) q → Copied (v .pairs) 2048 (2 * x) t → PairsCome (pairsFrom file j at low la lb x t)

@@ -39,11 +39,11 @@ module _ {A : Type 0} where
   length-join f zero = refl
   length-join f (suc n) = length-append (join f n) (f n) ∙ ap (λ (m : ℕ). m + length (f n)) (length-join f n)
 
-  -- parts of one length
-  pub length-join-even : (f : ℕ → List A) (n c : ℕ) → ((k : ℕ) → k < n → length (f k) ≡ c) → length (join f n) ≡ n * c
+  -- parts that are no longer than c
+  pub length-join-most : (f : ℕ → List A) (n c : ℕ) → ((k : ℕ) → k < n → length (f k) ≤ c) → length (join f n) ≤ n * c
   unfolding join
-  length-join-even f zero c h = omega arith
-  length-join-even f (suc n) c h = omega (arith, length-append (join f n) (f n), length-join-even f n c (λ k l. h k (omega arith)), h n (omega arith))
+  length-join-most f zero c h = omega arith
+  length-join-most f (suc n) c h = omega (arith, length-append (join f n) (f n), length-join-most f n c (λ k l. h k (omega arith)), h n (omega arith))
 
   pub join-same : (f g : ℕ → List A) (n : ℕ) → ((k : ℕ) → k < n → f k ≡ g k) → join f n ≡ join g n
   unfolding join

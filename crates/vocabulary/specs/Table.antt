@@ -1,9 +1,11 @@
 -- A list by its entries, and a loop that writes it.
 use mathlib.Core.Path.{_≡_, refl, sym, ap, _∙_}
-use mathlib.Core.Bool.{Bool, true}
-use mathlib.Core.List.{List, [], _∷_, _++_}
+use mathlib.Core.Bool.{Bool, true, false}
+use mathlib.Core.List.{List, [], _∷_, _++_, append-nil}
+use mathlib.Core.Logic.{⊎-elim}
 use Prim.Native.Nat.{ℕ, zero, suc, _+_, _≤_, _<_}
 use borrow.Author.Count.{below-more}
+use native.Mathlib.Nat.{eq-or-lt-of-le}
 use native.Mathlib.Omega.{arith}
 use lib.ListN.{length, getD, set, length-set}
 use lib.Seq.{ext-getD, getD-set-same, getD-set-other}
@@ -81,6 +83,7 @@ module _ {A : Type 0} where
   table-end f zero = refl
   table-end f (suc n) = ap (λ (xs : List A). f 0 ∷ xs) (table-end (λ i. f (suc i)) n)
 
+  -- where all pass, all are gathered,
   pub gather-all : (f : ℕ → A) (p : ℕ → Bool) (n : ℕ) → ((i : ℕ) → i < n → p i ≡ true) → gather f p n ≡ table f n
   unfolding gather
   gather-all f p zero h = sym (table-none f)
@@ -92,3 +95,11 @@ module _ {A : Type 0} where
           is-nil [] e = refl
           is-nil (x ∷ xs) e = absurd (omega arith)
   gather-all f p (suc n) h = rw (h n (omega arith), gather-all f p n (λ i l. h i (omega arith))) (sym (table-end f n))
+
+  -- and where those below m pass and no others, the first m
+  pub gather-first : (f : ℕ → A) (p : ℕ → Bool) (m n : ℕ) → m ≤ n → ((i : ℕ) → i < m → p i ≡ true) → ((i : ℕ) → m ≤ i → p i ≡ false) → gather f p n ≡ table f m
+  unfolding gather
+  gather-first f p m zero l pass stop = let e : m ≡ 0 = omega arith in rw e (gather-all f p 0 (λ i h. absurd (omega arith)))
+  gather-first f p m (suc n) l pass stop =
+      ⊎-elim (λ e. rw e (gather-all f p (suc n) (λ i h. pass i (omega arith))))
+      (λ h. rw (stop n (omega arith), append-nil (gather f p n)) (gather-first f p m n (omega arith) pass stop)) (eq-or-lt-of-le l)

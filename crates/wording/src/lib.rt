@@ -47,7 +47,10 @@ pub fn put_on_cycle(line: Line, i: u32, k: u32) -> Line
 
 // The line for a file that was read: number, evidence (the place of the first slot), words.
 pub fn print_read(place: usize, set: Counts) {
-    let mut line = Line::new().put_named(b"0 ", place as u64).put(b" read: ");
+    let mut line = Line::new()
+        .put_named(b"0 ", place as u64)
+        .put_named(b" read: edition ", set.edition as u64)
+        .put(b", ");
     line = put_counted(line, set.tasks as u64, b" task").put(b", ");
     line = put_counted(line, set.processors as u64, b" processor");
     line.put_named(b", cycle ", set.ticks as u64)

@@ -1,6 +1,7 @@
 use native.Mathlib.Omega.{arith}
 use Rattle.heads.specs.LoopSteps.{pattern-refused, pattern-stop, pattern-on}
-use Rattle.heads.proofs.Bounds.{spans-low, heading-bounds, links-low}
+use Rattle.kinds.specs.RangeLaws.{spans-low}
+use Rattle.heads.proofs.Bounds.{heading-bounds, links-low}
 use borrow.Author.Needs.{needs}
 use Rattle.heads.proofs.read_pattern.Statement.{statement}
 use Rattle.heads.proofs.read_pattern.Tie as tie

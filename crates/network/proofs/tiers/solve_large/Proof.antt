@@ -20,7 +20,7 @@ expand-requires c κs = expand-asked _ _ _ _ _ _ (c .before .before .pre) _ refl
 
 -- src/tiers.rt:77:29
 array-share-prefix-links : tie.Need-array-share-prefix-links
-array-share-prefix-links c = omega (arith, c .before .expand .ensures .count, c .before .before .before .before .pre .links)
+array-share-prefix-links c = omega (arith, c .before .expand .ensures .few, c .before .before .before .before .pre .links)
 
 -- src/tiers.rt:77:29
 slice-aggregate-solve-in : tie.Need-slice-aggregate-solve-in
@@ -28,11 +28,11 @@ slice-aggregate-solve-in c = sym (taken _ _ _ refl (c .before .before .expand .e
 
 -- src/tiers.rt:77:42
 array-borrow-prefix-next : tie.Need-array-borrow-prefix-next
-array-borrow-prefix-next c = omega (arith, c .before .before .expand .ensures .count, c .before .before .before .before .before .pre .links)
+array-borrow-prefix-next c = omega (arith, c .before .before .expand .ensures .few, c .before .before .before .before .before .pre .links)
 
 -- src/tiers.rt:77:42
 slice-aggregate-solve-in-2 : tie.Need-slice-aggregate-solve-in-2
-slice-aggregate-solve-in-2 c = sym (taken _ 4096 _ refl (omega (arith, c .before .before .before .expand .ensures .count, c .before .before .before .before .before .before .pre .links)))
+slice-aggregate-solve-in-2 c = sym (taken _ 4096 _ refl (omega (arith, c .before .before .before .expand .ensures .few, c .before .before .before .before .before .before .pre .links)))
 
 -- src/tiers.rt:77:58
 array-borrow-prefix-jobs : tie.Need-array-borrow-prefix-jobs
@@ -44,7 +44,7 @@ slice-aggregate-solve-in-3 c = sym (taken _ 2048 _ refl (omega (arith, c .before
 
 -- src/tiers.rt:77:5
 solve-in-requires : tie.Need-solve-in-requires
-solve-in-requires c κs = solve-asked _ _ _ _ (c .before .before .before .before .before .before .before .before .before .pre .numbers) _ _ (c .before .before .before .before .before .before .expand .ensures) _ 4096 2048 _ _ refl refl (omega (arith, c .before .before .before .before .before .before .expand .ensures .count, c .before .before .before .before .before .before .before .before .before .pre .links)) (c .before .before .before .before .before .before .before .before .wide .ensures .0) (omega (arith, c .before .before .before .before .before .before .before .before .wide .ensures .0, c .before .before .before .before .before .before .before .before .before .pre .jobs))
+solve-in-requires c κs = solve-asked _ _ _ _ (c .before .before .before .before .before .before .before .before .before .pre .numbers) _ _ (c .before .before .before .before .before .before .expand .ensures) _ 4096 2048 _ _ refl refl (omega (arith, c .before .before .before .before .before .before .expand .ensures .few, c .before .before .before .before .before .before .before .before .before .pre .links)) (c .before .before .before .before .before .before .before .before .wide .ensures .0) (omega (arith, c .before .before .before .before .before .before .before .before .wide .ensures .0, c .before .before .before .before .before .before .before .before .before .pre .jobs))
 
 -- src/tiers.rt:67:1
 same-length : tie.Need-same-length
