@@ -46,6 +46,9 @@ shows where. The screen reports a set of tasks only with a true finding, and the
       ('theorems/specs/Demand2.antt', 'one-verdict', 'no second verdict would be as right'),
       ('theorems/specs/Demands.antt', 'judge-shows-ticks', 'where a job gets too few ticks or too many, it shows how many, and when the first and the last of them fall'),
       ('theorems/specs/Demands.antt', 'start-shows-same', 'and a start answers and shows the same'),
+      ('theorems/specs/NextRound.antt', 'gets-next', 'where a job waits for one of the round before, over the end of a cycle too, its ticks are those of the job that it repeats, a cycle later'),
+      ('theorems/specs/BothWays.antt', 'both-ways-not-found', 'two tasks that wait for each other, one of the two always for the round before, are not taken for a circle'),
+      ('theorems/specs/NextRound.antt', 'same-verdict', 'the edition of a file changes nothing else: a set that two editions allow gets the same verdict in both'),
       ('theorems/specs/ScreenTrue.antt', 'finding-true', 'what the screen finds is so'),
       ('theorems/specs/Accepted.antt', 'finding-is-final', 'after a finding no plan for these tasks is accepted'),
       ('theorems/specs/Demand2Bytes.antt', 'judged-zero', 'all this for the bytes that a controller hands to the judge'),
@@ -61,7 +64,7 @@ over. What one task reports changes no tick of another.''',
       ('theorems/specs/Demand3.antt', 'all-running', 'and they are its full running time'),
       ('theorems/specs/Demand3.antt', 'never-more', 'no job gets more ticks than are planned'),
       ('theorems/specs/Demand3.antt', 'none-after', 'or any after it is heard to finish'),
-      ('theorems/specs/Demand3.antt', 'in-order', 'no job runs before those that it waits for are over'),
+      ('theorems/specs/Demand3.antt', 'in-order', 'no job runs before those that it waits for are over, also from one cycle into the next'),
       ('theorems/specs/Demand3.antt', 'own-reports-only', "other tasks' early finishes change nothing for a task"),
       ('theorems/specs/Demand3Shown.antt', 'shown-once', 'no task is shown on two processors in one tick'),
       ('theorems/specs/Demands.antt', 'every-play-keeps', 'all of this holds of the rows that the controller gets from its calls, however many, refused ones among them'),
@@ -283,7 +286,7 @@ def outside_section(lines):
             told.append(f'Source 003 adjusts times by rules that differ in part: {x}.')
         if re.match(r'seed \d+$', x):
             seed = x.split()[1]
-        if re.match(r'[\w ]+, \d+ calls:', x):
+        if re.match(r'[\w ]+, \d+ calls:|files that were read: |plans with a link into the next cycle: ', x):
             met.append('- ' + re.sub(r'(\d{4,})', lambda m: f'{int(m[1]):,}', x))
         if 'left out' in x or 'not built' in x:
             problems.append(x[:1].upper() + x[1:] + '.')

@@ -169,7 +169,8 @@ judgeCases =
 
 -- ==== The judge's definition answers each of them so.
 pub judge-cases : Answered judgeCases
-unfolding judgeCases onSome full lateBy overEnd bothOverEnd twiceLate most mostSlots linked linkedSlots twoThenOne roundabout lateNext small smallHead smallSlots reply taskNumbers rawHeadings
+unfolding judgeCases onSome full lateBy overEnd bothOverEnd twiceLate most mostSlots linked linkedSlots twoThenOne roundabout lateNext
+    small smallHead smallSlots reply taskNumbers rawHeadings
     rawPairs lentSet least greatest all firstOf count total table gather lcm lcmOf holds rises pairsIn cycle jobsOf jobsBefore jobs cycleFits release common
     linkFrom linkTo repeats linksOf links editionOf spansOf linksIn attributesFit taskFits pairKey pairFits patternKey headingFits patternFits openingFits sound
     slot shows shown awake runs ticks firstTick lastTick numberAt held gotAt andThen timesFrom taskFrom onTask tasksFrom twoAt onTwo pairsFrom countFrom headingAt onHeading

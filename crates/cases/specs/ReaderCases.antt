@@ -171,6 +171,7 @@ readerCases =
 -- ==== The reader's definition answers each of them so.
 pub reader-cases : Answered readerCases
 unfolding readerCases small patterned coprime from fromSeven toSeven onePair eight amongSeven reply taskNumbers least all total table lcm lcmOf holds
-    rises cycle jobsOf jobsBefore jobs cycleFits editionOf spansOf linksIn numberAt held gotAt andThen timesFrom taskFrom onTask tasksFrom twoAt onTwo pairsFrom countFrom
+    rises cycle jobsOf jobsBefore jobs cycleFits editionOf spansOf linksIn numberAt held gotAt andThen timesFrom taskFrom onTask tasksFrom
+    twoAt onTwo pairsFrom countFrom
     headingAt onHeading onPairs patternFrom onPattern patternsFrom openingOf middleFrom onOpening onTasks onMiddle onPatterns headFrom high slotsFrom onSlots onHead readOf
 reader-cases = refl

@@ -274,7 +274,8 @@ setCases =
 
 -- ==== The definitions answer each of them so.
 pub set-cases : Answered setCases
-unfolding setCases opened tasksOn oneTask patterned paired pairedIn seven sevenIn manyPatterns manyPairs chain bothWays bothWaysIn intoNext longWayBack threeLinked repeated repeatedBack fullLoad posAll
+unfolding setCases opened tasksOn oneTask patterned paired pairedIn seven sevenIn manyPatterns manyPairs chain bothWays bothWaysIn intoNext
+    longWayBack threeLinked repeated repeatedBack fullLoad posAll
     blank small smallHead fromSeven toSeven reply taskNumbers rawHeadings rawPairs lentSet least all firstOf total table join gather lcm lcmOf reach
     loops longest.most longest.entry longest.rounds soonest.fewest soonest.due soonest.soonest holds rises pairsIn cycle jobsOf jobsBefore jobs
     cycleFits release due numberOfJob taskOfJob jobOfJob common linkFrom linkTo repeats linksOf links inner editionOf spansOf linksIn attributesFit taskFits

@@ -71,7 +71,8 @@ module _ (s : Set) (f : Sound s) (k : ℕ) (lk : k < s .patterns .count) where
     round-low = omega (arith, round-known, rounds-low (s .edition))
 
     module _ (n : ℕ) where
-      to-is : (n + roundOf u v k q < repeats u v k → linkTo u v k q n < jobsOf u (toTask v k)) × (linkTo u v k q n < jobsOf u (toTask v k) → n + roundOf u v k q < repeats u v k)
+      to-is : (n + roundOf u v k q < repeats u v k → linkTo u v k q n < jobsOf u (toTask v k))
+          × (linkTo u v k q n < jobsOf u (toTask v k) → n + roundOf u v k q < repeats u v k)
       unfolding linkTo roundOf
       to-is = rw cycle-rounds (turn-is (pairSecond v k q) (roundJobs u v k) (repeats u v k) n some-round)
 

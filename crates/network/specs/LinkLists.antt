@@ -490,7 +490,8 @@ module _ (s : Set) (sound : Sound s) (bs : List ℕ) (based : FirstNumbers (cycl
           omega (
             arith,
             sound .second-low k q l lq,
-            reach-low (s .edition) (common u v k / period u (toTask v k)) refl (omega (arith, div-le-self (common u v k) (period u (toTask v k)), common-low k l)),
+            reach-low (s .edition) (common u v k / period u (toTask v k)) refl
+                (omega (arith, div-le-self (common u v k) (period u (toTask v k)), common-low k l)),
           )
 
 -- ---- the first e places of a row hold the links within the block

@@ -23,7 +23,8 @@ use Rattle.network.specs.Network.{Link, noLink, linkOf, pairLinks, patte
 
 -- ---- a pair makes the first of its links, as many as lie within the block
 pub pair-links : (s : Set) → Sound s → (k q : ℕ) → k < s .patterns .count → q < pairCount (s .patterns) k
-    → pairLinks (s .tasks) (s .patterns) k q ≡ table (linkOf (s .tasks) (s .patterns) k q) (repeats (s .tasks) (s .patterns) k - roundOf (s .tasks) (s .patterns) k q)
+    → pairLinks (s .tasks) (s .patterns) k q
+    ≡ table (linkOf (s .tasks) (s .patterns) k q) (repeats (s .tasks) (s .patterns) k - roundOf (s .tasks) (s .patterns) k q)
 unfolding pairLinks
 pair-links s f k q lk lq =
     gather-first (linkOf (s .tasks) (s .patterns) k q) (inner (s .tasks) (s .patterns) k q)

@@ -1,23 +1,27 @@
--- Two tasks that are linked both ways, one of them into the next round, make no cycle: a round more, or the other task in the same round, lies behind every link.
-use mathlib.Core.Path.{_≡_, refl, ap, ap₂}
+-- Two tasks that are linked both ways, one of the two ways into the next round, make no cycle: every link leads to the other task in the same round, or into the
+-- next.
+use mathlib.Core.Path.{_≡_, refl, ap, ap₂, subst}
 use mathlib.Core.Logic.{_⊎_, ⊎-elim}
 use Prim.Native.Nat.{ℕ, _+_, _*_, _/_, _<_}
 use native.Mathlib.Nat.{add-mul-div-right, div-eq-of-lt}
 use native.Mathlib.Omega.{arith}
 use lib.Dec.{eqb}
 use borrow.Author.Tests.{eq-eqb, ne-eqb}
-use Rattle.vocabulary.specs.Test.{bit}
+use Rattle.vocabulary.specs.Test.{bit, clash}
 use Rattle.vocabulary.specs.Multiple.{lcm-comm}
-use Rattle.graph.specs.Reach.{Free, free-by}
+use Rattle.graph.specs.Reach.{Free, free-by, loops-iff}
 use Rattle.kinds.specs.Tasks.{Tasks, Patterns, Set, period, fromTask, toTask, pairCount, pairFirst, pairSecond}
 use Rattle.kinds.specs.Cycle.{jobsOf}
 use Rattle.kinds.specs.Jobs.{numberOfJob, taskOfJob, jobOfJob}
 use Rattle.kinds.specs.Links.{common, linkFrom, linkTo}
 use Rattle.kinds.proofs.SoundFacts.{Sound}
-use Rattle.laws.specs.Order.{task-of-number, job-of-number}
+use Rattle.laws.specs.Order.{task-of-number, job-of-number, number-low}
 use Rattle.laws.specs.Blocks.{roundOf, some-round}
 use Rattle.network.specs.Network.{network}
-use Rattle.network.specs.NetworkLaws.{each-made, inner-low}
+use Rattle.network.specs.NetworkLaws.{each-made, inner-low, inside-network}
+use Rattle.screen.specs.declared.Finding.the-variants as finding
+use Rattle.screen.specs.Findings.{findingOf}
+use Rattle.theorems.specs.ScreenTrue.{Finds, finding-true}
 
 module _ (s : Set) (f : Sound s) (k q n : ℕ) (lk : k < s .patterns .count) (lq : q < pairCount (s .patterns) k) where
   -- ---- the rounds of a link's jobs: the n-th link begins in round n, and ends there or in the next
@@ -29,7 +33,8 @@ module _ (s : Set) (f : Sound s) (k q n : ℕ) (lk : k < s .patterns .count) (lq
       let some : 0 < c = omega arith in
       omega (arith, add-mul-div-right (pairFirst (s .patterns) k q) n some, div-eq-of-lt l)
 
-  to-round : linkTo (s .tasks) (s .patterns) k q n / (common (s .tasks) (s .patterns) k / period (s .tasks) (toTask (s .patterns) k)) ≡ roundOf (s .tasks) (s .patterns) k q + n
+  to-round : linkTo (s .tasks) (s .patterns) k q n / (common (s .tasks) (s .patterns) k / period (s .tasks) (toTask (s .patterns) k))
+      ≡ roundOf (s .tasks) (s .patterns) k q + n
   unfolding linkTo roundOf
   to-round = add-mul-div-right (pairSecond (s .patterns) k q) n (some-round s f k lk)
 
@@ -97,7 +102,7 @@ module _ (s : Set) (f : Sound s) (home on : ℕ) (lh : home < s .patterns .count
       at-on : (k : ℕ) → k ≡ on → q < pairCount v k → place (fromTask v k) (linkFrom u v k q n) < place (toTask v k) (linkTo u v k q n)
       at-on k e l = rw e (grows-on q n (rw e at l))
 
-  -- ==== Then no job lies on a cycle, and 13 is not answered.
+  -- ==== Then no job lies on a cycle,
   pub both-ways-free : Free (network (s .tasks) (s .patterns))
   both-ways-free =
       free-by (network u v) far (λ x l.
@@ -106,3 +111,11 @@ module _ (s : Set) (f : Sound s) (home on : ℕ) (lh : home < s .patterns .count
       let a = far-is (fromTask v (w .pattern)) (linkFrom u v (w .pattern) (w .pair) (w .turn)) (f .from-low (w .pattern) (w .pattern-low)) (i .0) in
       let b = far-is (toTask v (w .pattern)) (linkTo u v (w .pattern) (w .pair) (w .turn)) (f .to-low (w .pattern) (w .pattern-low)) (i .1) in
       omega (arith, ap far (w .from-is), ap far (w .to-is), a, b, grows (w .pattern) (w .pair) (w .turn) (w .pattern-low) (w .pair-low)))
+
+  -- ==== and the screen does not answer 13.
+  pub both-ways-not-found : (i k : ℕ) → findingOf s ≡ finding.Cycle i k → ⊥
+  unfolding Finds network
+  both-ways-not-found i k e =
+      let w = subst (Finds s) e (finding-true s) .lowest in
+      let x : ℕ = numberOfJob u i k in
+      clash (loops-iff (network u v) x (inside-network s f) .1 (w .is)) (both-ways-free x (number-low u i k (w .task) (w .job)))

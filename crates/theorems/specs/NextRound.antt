@@ -42,7 +42,8 @@ wider-rises low la lb lb′ x y l h =
     let b = holds-at (pick (eqb x (low .first)) (low .second) 0) lb y (w .1) in
     rw (w .0) (holds-yes (pick (eqb x (low .first)) (low .second) 0) lb′ y (b .0) (omega arith))
 
-wider-pattern : (e e′ : ℕ) (u : Tasks) (v : Patterns) (k : ℕ) → editionOf e .rounds ≤ editionOf e′ .rounds → patternFits e u v k ≡ true → patternFits e′ u v k ≡ true
+wider-pattern : (e e′ : ℕ) (u : Tasks) (v : Patterns) (k : ℕ) → editionOf e .rounds ≤ editionOf e′ .rounds
+    → patternFits e u v k ≡ true → patternFits e′ u v k ≡ true
 unfolding patternFits pairFits
 wider-pattern e e′ u v k l h =
     let a : ℕ = firstReach (common u v k) (period u (fromTask v k)) in
@@ -54,7 +55,8 @@ wider-pattern e e′ u v k l h =
     (all-at (pairFits (v .pairs) (pairsBefore v k) a (editionOf e .rounds * c)) (pairCount v k) (w .1) q lq)))
 
 -- ==== A set that is sound is so in every known edition that reaches as far: what edition 1 allows edition 2 allows.
-pub wider-sound : (s : Set) (e : ℕ) → holds editions e ≡ true → editionOf (s .edition) .rounds ≤ editionOf e .rounds → sound s ≡ true → sound (inEdition e s) ≡ true
+pub wider-sound : (s : Set) (e : ℕ) → holds editions e ≡ true → editionOf (s .edition) .rounds ≤ editionOf e .rounds
+    → sound s ≡ true → sound (inEdition e s) ≡ true
 unfolding sound openingFits
 wider-sound s e known l h =
     let u : Tasks = s .tasks in
