@@ -1,5 +1,5 @@
--- Two tasks that are linked both ways, one of the two ways into the next round, make no cycle: every link leads to the other task in the same round, or into the
--- next.
+-- Two tasks that are linked both ways, one of the two ways into the next round, make no cycle: every link leads to the other task in the same round,
+-- or into the next.
 use mathlib.Core.Path.{_≡_, refl, ap, ap₂, subst}
 use mathlib.Core.Logic.{_⊎_, ⊎-elim}
 use Prim.Native.Nat.{ℕ, _+_, _*_, _/_, _<_}
