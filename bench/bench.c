@@ -256,6 +256,8 @@ int main(int argc, char **argv)
         rows("case A: 3 tasks, 1 processor, H 24");
     full(&file);
     rows("every slot in use: 64 tasks, 8 processors, H 6,000, no link");
+    far_apart(&file);
+    rows("periods far apart: 64 tasks, 8 processors, H 6,000, 64 patterns between periods 48 and 125");
     longest_file(&file);
     row(READ, "longest file: 64 tasks, 64 patterns, 1,024 pairs");
     row(WRITE, "");
@@ -266,6 +268,8 @@ int main(int argc, char **argv)
     row(READ, "64 tasks of two periods in turn, no pattern, no slots (1)");
     periods(&file, 250, 250);
     row(READ, "the same with one period: the difference is the share of the common multiple");
+    periods(&file, 5998, 5997);
+    row(READ, "the same with periods 5,997 and 5,998 in turn, whose multiple is over 6,000 (5)");
     printf("\n## Growth\n\nAccepted plans for 8 processors, about half of their slots in use; each task but the last has 10 jobs in a cycle, and half of the tasks precede "
            "another.\nA time, and in brackets its ratio to plain C.\n\n");
     growth_head();

@@ -189,6 +189,47 @@ static void periods(made *f, uint32_t a, uint32_t b)
     f->tasks = f->length;
 }
 
+/* An accepted plan whose 64 patterns all go between two periods that come together only after 6,000 ticks: from each of 8 tasks of period 48 to each of 8 of
+   period 125, job 0 to job 0. 48 tasks more have period 6,000. The first kind runs at the start of its periods, the second a tick later, or two where the
+   first kind runs then, and the third from tick 2 to 7. */
+static void far_apart(made *f)
+{
+    enum { H = 6000, M = 8, N = 64 };
+    uint32_t i, k;
+    uint8_t *slots;
+    f->length = 0;
+    put(f, 1);
+    put(f, N);
+    put(f, M);
+    for (i = 0; i < N; i++) {
+        put(f, i < 8 ? 48 : i < 16 ? 125 : H);
+        put(f, 1);
+        put(f, 0);
+        put(f, i < 8 ? 48 : i < 16 ? 125 : H);
+    }
+    put(f, 64);
+    for (i = 0; i < 64; i++) {
+        static const uint8_t pair[1][2] = {{0, 0}};
+        put_pattern(f, i / 8, 8 + i % 8, 1, pair);
+    }
+    slots = f->bytes + f->length;
+    memset(slots, 0, M * H);
+    for (i = 0; i < 8; i++) {
+        for (k = 0; k < H; k += 48)
+            slots[k * M + i] = (uint8_t)(i + 1);
+        for (k = 1; k < H; k += 125)
+            slots[(k % 48 ? k : k + 1) * M + i] = (uint8_t)(i + 9);
+        for (k = 0; k < 6; k++)
+            slots[(k + 2) * M + i] = (uint8_t)(17 + k * M + i);
+    }
+    f->tasks = f->length;
+    f->length += M * H;
+    f->processors = M;
+    f->cycle = H;
+    f->count = N;
+    f->jobs = 8 * 125 + 8 * 48 + 48;
+}
+
 /* A plan with every slot in use: 64 tasks, 8 processors, H 6,000. Processors 0 to 3 run eight tasks of period 240 each in turn, 30 ticks apiece, and
    processors 4 to 7 eight of period 2,000 each, 250 ticks apiece. */
 static void full(made *f)

@@ -1,7 +1,7 @@
 #!/usr/bin/env bash
-# Tests from outside: the archive is linked into C programs, as an integrator would, which run the vectors, the largest plans, random cases and the example;
-# the programs run on stored inputs. Archive and programs are proved and built first where they are not yet. Each line that differs is printed; the last line
-# adds up. tests/stand_in.c, in the archive's place, runs the same programs on plain C.
+# Tests from outside: the archive is linked into C programs, as an integrator would, which run the vectors, the largest plans, periods two by two, random cases and
+# the example; the programs run on stored inputs. Archive and programs are proved and built first where they are not yet. Each line that differs is printed; the
+# last line adds up. tests/stand_in.c, in the archive's place, runs the same programs on plain C.
 set -u
 cd "$(dirname "$0")/.." || exit 2
 out=target/outside
@@ -15,7 +15,7 @@ echo 'proving and building the programs: some minutes where nothing has been pro
 programs=(tests/runs/*)
 rt check "${programs[@]##*/}" >"$out/programs.log" 2>&1 || { cat "$out/programs.log"; give_up 'the programs are not built'; }
 . tests/platform.sh
-for program in vectors largest random; do
+for program in vectors largest periods random; do
     $cc -O2 tests/$program.c bench/plain.c $archive -o "$out/$program" || give_up "$program is not built"
 done
 $cc -O2 tests/vectors.c $stand_in -o "$out/vectors_plain" || give_up 'vectors is not built'
@@ -74,6 +74,7 @@ for name in "${vectors[@]}"; do
     count "archive, $name" $run "$out/vectors" "${name#*-}" "tests/vectors/$name.txt"
 done
 count 'archive, largest plans' $run "$out/largest"
+count 'archive, periods two by two' $run "$out/periods"
 count 'archive against plain C, random cases' $run "$out/random" 300000
 
 # The example on every plan file: examples/NAME.out is what it prints.

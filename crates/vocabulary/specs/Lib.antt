@@ -6,6 +6,7 @@ pub mod Total
 pub mod Table
 pub mod Bits
 pub mod Multiple
+pub mod Divisor
 pub mod Remainder
 pub mod StopsAndZeros
 pub mod Lists

@@ -3,8 +3,8 @@ use mathlib.Core.Bool.{Bool, true}
 use mathlib.Core.Path.{_≡_, refl, ap₂, subst}
 use mathlib.Core.Logic.{⊎-elim, _⊎_}
 use Prim.Native.Nat.{ℕ, zero, suc, _+_, _-_, _*_, _/_, _%_, _≤_, _<_, _∣_}
-use native.Mathlib.Nat.{dvd-mul-right, dvd-mul-left, dvd-trans, dvd-of-mod-eq-zero, mod-eq-zero-of-dvd, mul-div-cancel', le-of-dvd, pos-of-dvd-of-pos}
-use native.Mathlib.Nat.{le-div-iff-mul-le, mul-mod-left, mul-le-mul-left, mul-pos, mod-lt, dvd-mod-iff, one-mul, eq-zero-or-pos, one-dvd, dvd-sub}
+use native.Mathlib.Nat.{dvd-refl, dvd-mul-right, dvd-mul-left, dvd-trans, dvd-of-mod-eq-zero, mod-eq-zero-of-dvd, mul-div-cancel', le-of-dvd, pos-of-dvd-of-pos}
+use native.Mathlib.Nat.{le-div-iff-mul-le, mul-mod-left, mul-le-mul-left, mul-pos, mod-lt, dvd-mod-iff, one-mul, eq-zero-or-pos, one-dvd}
 use native.Mathlib.Nat.{add-zero, add-suc, le-refl, le-trans, le-antisymm, eq-or-lt-of-le, le-of-suc-le-suc}
 use native.Mathlib.Numerals.{add-one}
 use native.Mathlib.Omega.{arith}
@@ -69,9 +69,9 @@ lcm-comm a b ha hb =
     le-antisymm (lcm-least a b (lcm b a) (lcm-pos b a hb) (lcm-right b a ha) (lcm-left b a))
     (lcm-least b a (lcm a b) (lcm-pos a b ha) (lcm-right a b hb) (lcm-left a b))
 
--- two multiples of a are a apart
-pub gap : (a m l : ℕ) → a ∣ m → a ∣ l → m < l → m + a ≤ l
-gap a m l p q h = omega (arith, le-of-dvd {m = a} {n = l - m} (omega arith) (dvd-sub a q p))
+-- a number that the other divides
+pub lcm-whole : (a b : ℕ) → 0 < a → b ∣ a → lcm a b ≡ a
+lcm-whole a b ha d = le-antisymm (lcm-least a b a ha (dvd-refl a) d) (le-of-dvd (lcm-pos a b ha) (lcm-left a b))
 
 -- what it means to be the least common multiple: it is one, and divides every other
 pub record Common (a b m : ℕ) : Type 0 where

@@ -1,11 +1,8 @@
--- What remains after a division: of a number that is once over, and where a time stands after its task's last release.
+-- What remains after a division: where a time stands after its task's last release.
 use mathlib.Core.Path.{_≡_, sym, ap, _∙_}
 use Prim.Native.Nat.{ℕ, _+_, _-_, _%_, _*_, _<_, _≤_, _∣_}
 use native.Mathlib.Nat.{mod-add-mod, add-mod-right, add-mod, mod-mod-of-dvd, add-mul-mod-self-right, mod-eq-of-lt, mod-eq-zero-of-dvd, add-zero, mod-mod}
 use native.Mathlib.Omega.{arith}
-
-pub rest-over : (x b : ℕ) → b ≤ x → x < b + b → x - b ≡ x % b
-rest-over x b l h = let e : x - b + b ≡ x = omega arith in sym (ap (λ (n : ℕ). n % b) (sym e) ∙ add-mod-right (x - b) b ∙ mod-eq-of-lt (omega arith))
 
 mod-cancel : (T O x d : ℕ) → O ≤ T → (x + O) % T ≡ (d + O) % T → x % T ≡ d % T
 mod-cancel T O x d l e = sym (back x) ∙ ap (λ (n : ℕ). (n + (T - O)) % T) e ∙ back d
