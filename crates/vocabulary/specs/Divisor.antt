@@ -2,9 +2,10 @@
 use mathlib.Core.Path.{_≡_, sym, ap, _∙_, subst}
 use mathlib.Core.Logic.{_↔_}
 use Prim.Native.Nat.{ℕ, zero, suc, _+_, _-_, _*_, _/_, _%_, _^_, _≤_, _<_, _∣_}
-use native.Mathlib.Nat.{dvd-refl, dvd-zero, dvd-antisymm, dvd-mod-iff, dvd-mul-right, dvd-mul-left, dvd-mul-right-of-dvd, dvd-of-mul-dvd-mul-left, mul-dvd-mul-left, mul-dvd-mul-right}
-use native.Mathlib.Nat.{mul-div-cancel', div-mul-cancel, mul-div-assoc, div-add-mod, pos-of-dvd-of-pos, mul-comm, mul-assoc, mul-right-comm, mul-add, add-mul, eq-of-mul-eq-mul-right}
-use native.Mathlib.Nat.{mod-lt, mod-le, mod-eq-sub-mod, mul-lt-mul-of-pos-left, mul-lt-mul-of-pos-right, mul-le-mul-left, le-mul-of-pos-right, two-pow-succ, lt-of-le-of-lt, le-of-lt}
+use native.Mathlib.Nat.{dvd-refl, dvd-zero, dvd-antisymm, dvd-mod-iff, dvd-mul-right, dvd-mul-left, dvd-mul-right-of-dvd}
+use native.Mathlib.Nat.{dvd-of-mul-dvd-mul-left, mul-dvd-mul-left, mul-dvd-mul-right, mul-div-cancel', div-mul-cancel, mul-div-assoc, div-add-mod}
+use native.Mathlib.Nat.{mul-comm, mul-assoc, mul-right-comm, mul-add, add-mul, mul-le-mul-left, mul-lt-mul-of-pos-left, mul-lt-mul-of-pos-right}
+use native.Mathlib.Nat.{mod-lt, mod-le, mod-eq-sub-mod, le-mul-of-pos-right, eq-of-mul-eq-mul-right, pos-of-dvd-of-pos, two-pow-succ, lt-of-le-of-lt, le-of-lt}
 use native.Mathlib.Omega.{arith}
 use lib.Pow.{pow-add, pow-pos}
 use lib.Ieee.{size}
@@ -77,8 +78,9 @@ divisor-there a b ha hb =
     within q p r =
         let left : a ∣ a * b / q = rw (mul-div-assoc q a r) (dvd-mul-right a (b / q)) in
         let right : b ∣ a * b / q = rw (mul-comm a b, mul-div-assoc q b p) (dvd-mul-right b (a / q)) in
+        let times : l * q ∣ a * b / q * q = mul-dvd-mul-right l (lcm-dvd a b (a * b / q) ha hb left right) q in
         dvd-of-mul-dvd-mul-left q (lcm-pos a b ha)
-        (subst (λ (x : ℕ). l * q ∣ x) (div-mul-cancel q (dvd-mul-right-of-dvd q p b) ∙ sym (product a b ha hb)) (mul-dvd-mul-right l (lcm-dvd a b (a * b / q) ha hb left right) q))
+        (subst (λ (x : ℕ). l * q ∣ x) (div-mul-cancel q (dvd-mul-right-of-dvd q p b) ∙ sym (product a b ha hb)) times)
 
 -- The least common multiple times the greatest common divisor is the product.
 pub lcm-divisor : (a b g : ℕ) → 0 < a → 0 < b → GreatestDivisor a b g → lcm a b * g ≡ a * b
