@@ -1,6 +1,6 @@
 /* The largest plans through the archive: accepted as they are, with one slot changed answered as plain C answers, their adjusted times those of plain C, and
    three cycles of them played as plain C plays them. Each file, and the longest there is, is written back as it was. What an edition allows is accepted up to
-   its limit, and one more is refused by every call. */
+   its limit, and one more is refused by every call. A plan with periods that come together late is accepted too. */
 #include "../bench/largest.h"
 #include "calls.h"
 #include <stdio.h>
@@ -201,6 +201,8 @@ int main(void)
     refused(&f, 9, f.tasks, "a link too many");
     full(&f);
     run(&f, "every slot in use");
+    far_apart(&f);
+    accepted(&f, "periods far apart");
     longest_file(&f);
     write_back(&f, "most pairs");
     longest_of_all(&f, 1);

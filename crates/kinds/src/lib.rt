@@ -306,7 +306,7 @@ pub fn is_within(v: u32, low: u32, limit: u32) -> bool
 }
 
 // The least common multiple by Euclid's method. How often the greatest common divisor goes into a is counted along, which saves a division at the end:
-// x times t and y times s make a in every turn. In most calls b divides a, which then is the answer.
+// x times t and y times s make a in every turn. Where b divides a, a is the answer, and no quotient is waited for.
 fn multiple_of(a: u32, b: u32) -> u32
     requires { ⌜ (0 < a) × (a ≤ 6000) × (0 < b) × (b ≤ 6000) ⌝ }
     ensures { λ r. ⌜ r ≡ lcm a b ⌝ }
