@@ -309,9 +309,9 @@ static void adjusted(const plain_set *s, const network *g, int32_t *releases, in
         more = 0;
         for (k = 0; k < g->links; k++) {
             uint32_t a = g->start[k], b = g->end[k];
-            int32_t d = deadlines[b] - (int32_t)s->running[g->task[b]];
-            if (releases[b] < releases[a])
-                releases[b] = releases[a], more = 1;
+            int32_t r = releases[a] + (int32_t)s->running[g->task[a]], d = deadlines[b] - (int32_t)s->running[g->task[b]];
+            if (releases[b] < r)
+                releases[b] = r, more = 1;
             if (deadlines[a] > d)
                 deadlines[a] = d, more = 1;
         }

@@ -69,7 +69,9 @@ uint32_t flute_write_evidence(const uint8_t *tasks, size_t tasks_len, const uint
 uint32_t flute_screen(const uint8_t *tasks, size_t tasks_len);
 uint32_t flute_screen_evidence(const uint8_t *tasks, size_t tasks_len, uint32_t which);
 
-/* Works out the adjusted release and the adjusted deadline of every job of a cycle, ordered by task, then job. Tested in this order:
+/* Works out the adjusted release and the adjusted deadline of every job of a cycle, ordered by task, then job: the release leaves time for each job before it
+   to run, the greatest of the job's own release and, for each predecessor, that one's adjusted release plus its running time; the deadline leaves time for each
+   job after it, the least of the job's own deadline and, for each successor, that one's adjusted deadline less its running time. Tested in this order:
     10  bad tasks
     11  either buffer has not exactly as many numbers as a cycle has jobs (H/T for each task, added up)
     13  links between jobs of one cycle make a cycle: the lowest job that lies on one

@@ -1,6 +1,7 @@
 /* The largest plans through the archive: accepted as they are, with one slot changed answered as plain C answers, their adjusted times those of plain C, and
    three cycles of them played as plain C plays them. Each file, and the longest there is, is written back as it was. What an edition allows is accepted up to
-   its limit, and one more is refused by every call. A plan with periods that come together late is accepted too. */
+   its limit, and one more is refused by every call. A plan with periods that come together late is accepted too. The latest adjusted release and the earliest
+   adjusted deadline are those of a line of 64 jobs. */
 #include "../bench/largest.h"
 #include "calls.h"
 #include <stdio.h>
@@ -187,6 +188,41 @@ static void break_onward(const made *f)
     expect(agrees(call_judge(f->bytes, f->tasks, slots, n), broken), "a broken link into the next cycle");
 }
 
+/* A line of 64 jobs that each need their whole window of 6,000 ticks, from the lowest task to the highest or back: a release leaves time for all jobs before it,
+   a deadline for all after it. */
+static void longest_line(made *f, int back, const char *what)
+{
+    int32_t releases[64], deadlines[64];
+    uint32_t i;
+    plain_answer fine = {0, {0}}, load = {14, {384000, 48000}};
+    f->length = 0;
+    put(f, 1);
+    put(f, 64);
+    put(f, 8);
+    for (i = 0; i < 64; i++) {
+        put(f, 6000);
+        put(f, 6000);
+        put(f, 5999);
+        put(f, 6000);
+    }
+    put(f, 63);
+    for (i = 0; i < 63; i++) {
+        put(f, back ? i + 1 : i);
+        put(f, back ? i : i + 1);
+        put(f, 1);
+        put(f, 0);
+        put(f, 0);
+    }
+    f->tasks = f->length;
+    expect(agrees(call_screen(f->bytes, f->tasks), load), what);
+    expect(agrees(call_adjust(f->bytes, f->tasks, releases, 64, deadlines, 64), fine), what);
+    for (i = 0; i < 64; i++) {
+        int32_t before = (int32_t)(back ? 63 - i : i);
+        expect(releases[i] == 5999 + 6000 * before, what);
+        expect(deadlines[i] == 11999 - 6000 * (63 - before), what);
+    }
+}
+
 int main(void)
 {
     static made f;
@@ -210,6 +246,8 @@ int main(void)
     longest_of_all(&f, 2);
     write_back(&f, "longest file of edition 2");
     try_editions(&f);
+    longest_line(&f, 0, "a line of jobs");
+    longest_line(&f, 1, "a line of jobs from the last task to the first");
     printf("%d passed, %d failed\n", passed, failed);
     return failed != 0;
 }

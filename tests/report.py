@@ -51,6 +51,7 @@ shows where. The screen reports a set of tasks only with a true finding, and the
       ('theorems/specs/NextRound.antt', 'same-verdict', 'the edition of a file changes nothing else: a set that two editions allow gets the same verdict in both'),
       ('theorems/specs/ScreenTrue.antt', 'finding-true', 'what the screen finds is so'),
       ('theorems/specs/Accepted.antt', 'finding-is-final', 'after a finding no plan for these tasks is accepted'),
+      ('theorems/specs/OldReleases.antt', 'same-findings', 'that a job waits until those before it have had time to run changes no finding but which job is named'),
       ('theorems/specs/Demand2Bytes.antt', 'judged-zero', 'all this for the bytes that a controller hands to the judge'),
       ('theorems/specs/ShutOut.antt', 'not-repeat', 'a judge that always says the same would not do')]),
     ('Demand 3: a right plan is rightly played', '''

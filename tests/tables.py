@@ -1,8 +1,8 @@
 """Compares flute_adjust with the tables that source document 003 publishes for the flight application software, sections II.D and IV.E.
 
 The two task sets are stored runs of flute_adjust, in units of 5 ms; the numbers below are the source's, in ms. The source adjusts a task, so a number of
-its tables stands for every job of the task; document 01 adjusts each job. Each comparison is one number of a table against all jobs of its task. Those that
-differ are printed; the last line adds up.
+its tables stands for every job of the task; document 01 adjusts each job. Each comparison is one number of a table, or the number that our rules put in its
+place, against all jobs of its task. Those that differ are printed; the last line adds up.
 """
 import os
 import subprocess
@@ -19,11 +19,21 @@ SIMPLE = [('PDE', 100, 100), ('SGS', 1000, 1000), ('PWS', 1000, 1000), ('FDIR', 
 EXTENDED = [('PDE', 100, 100, 0), ('SGS', 1000, 990, 10), ('PWS', 1000, 990, 10), ('FDIR', 100, 100, 0), ('GNC_US', 1000, 290, 10),
             ('GNC_DS', 1000, 990, 10), ('TM/TC', 10000, 9860, 170), ('Gyro Acq', 100, 100, 0), ('GPS Acq', 1000, 1000, 10), ('Str Acq', 10000, 10000, 20)]
 
-# Where document 01 says another number than section IV.E's table.
+# Where our rules say another number than section IV.E's table.
 #
-# TM/TC: by the source's own formula, O_i + max(0, O_j* + n T_j - (O_i + n' T_i)), its release is 30 + (0 + 200) - (30 + 0) = 200, that of the job of FDIR
-# which it waits for. The worked example writes 0 in place of the first 30 and so prints 170, at which that job is not yet released.
-RELEASES = {'TM/TC': 200}
+# The source's O* lets a job wait until its predecessors are released, formula (2) and property 1. Request 105's release also leaves them time to run: it is the
+# greatest of the own release and, for each predecessor, its adjusted release plus its C. So the three tasks without a predecessor have the source's release, and
+# the other seven a later one. GNC_US waits for FDIR until 25 and for GPS Acq only until 20.
+RELEASES = {'FDIR': 0 + 15,     # Gyro Acq and its C
+            'PDE': 15 + 10,     # FDIR and its C
+            'GNC_US': 15 + 10,  # FDIR and its C
+            'GNC_DS': 25 + 20,  # GNC_US and its C
+            'SGS': 45 + 20,     # GNC_DS and its C
+            'PWS': 45 + 20,     # GNC_DS and its C
+            'TM/TC': 215 + 10}  # job 2 of FDIR and its C
+# The source's 170 for TM/TC is in any case another number than its formula's, O_i + max(0, O_j* + n T_j - (O_i + n' T_i)) = 30 + (0 + 200) - (30 + 0) = 200: the
+# worked example writes 0 in place of the first 30, and at 170 the job of FDIR that TM/TC waits for is not yet released.
+#
 # Section IV adjusts releases only: its D* is counted from O* and keeps O* + D* = O + D. Document 01's deadline is in any case section II's, the least of
 # the own deadline and each successor's less its C, which is lower for the four tasks that have a successor to make room for.
 DEADLINES = {'FDIR': 95, 'GNC_DS': 980, 'Gyro Acq': 85, 'GPS Acq': 280}
@@ -60,7 +70,7 @@ def main():
     for i, (name, period, deadline, release) in enumerate(EXTENDED):
         results.append(compare('IV.E', 'O*', name, period, RELEASES.get(name, release), [r for r, _ in jobs[i]]))
         results.append(compare('IV.E', 'O* + D*', name, period, DEADLINES.get(name, release + deadline), [d for _, d in jobs[i]]))
-    print('%d of %d numbers are held to document 01 and not to the source, where they differ' % (len(RELEASES) + len(DEADLINES), len(results)))
+    print('%d of %d numbers are held to our rules and not to the source, where they differ' % (len(RELEASES) + len(DEADLINES), len(results)))
     print('%d passed, %d failed' % (sum(results), len(results) - sum(results)))
     return not all(results)
 

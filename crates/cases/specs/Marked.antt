@@ -30,9 +30,9 @@ use Rattle.slots.specs.High.{high}
 use Rattle.judge.specs.Rules.{twin, mated, clashes, strays, strayed, miscounts, miscounted, against, bars, broken, breaks, brokenPair, brokenPattern}
 use Rattle.judge.specs.Judgement.{highAt, twiceAt, outsideAt, wrongAt, brokenAt, planRules, rules, verdictOf}
 use Rattle.network.specs.Network.{pairLinks, patternLinks, cycleLinks, linkStarts, linkEnds, network}
-use Rattle.network.specs.Times.{ownRelease, ownDue, ownRunning, releaseWeight, adjustedRelease, adjustedDeadline}
-use Rattle.network.specs.Causes.{onCycle, load, room, tight}
-use Rattle.screen.specs.Findings.{screenRules, findingOf}
+use Rattle.network.specs.Times.{ownRelease, ownDue, ownRunning, releaseBy, adjustedDeadline}
+use Rattle.network.specs.Causes.{onCycle, load, room, tightBy}
+use Rattle.screen.specs.Findings.{screenRules, findingBy}
 use Rattle.dispatcher.specs.Steps.{releases, heard, doneAt, doneOf, asleep, byteOf, rowOf, standsAt, inRow, ranOf, afterOf, stepOf}
 use Rattle.dispatcher.specs.Runs.{stateAt, shownAt}
 use Rattle.cases.specs.Questions.{Row, Answered, is, refusedBy, says, times, rows, at, gets, reply, numberReply}
@@ -142,7 +142,7 @@ unfolding cases fileA setA slotsA setC slotsC setD slotsD setG setH setI setJ se
     sound slot shows shown awake runs ticks firstTick lastTick numberAt held gotAt andThen timesFrom taskFrom onTask tasksFrom twoAt onTwo pairsFrom countFrom headingAt onHeading
     onPairs patternFrom onPattern patternsFrom openingOf middleFrom onOpening onTasks onMiddle onPatterns headFrom slotsFrom onSlots onHead readOf high twin mated clashes
     strays strayed miscounts miscounted against bars broken breaks brokenPair brokenPattern highAt twiceAt outsideAt wrongAt brokenAt firstOf planRules
-    rules verdictOf pairLinks patternLinks cycleLinks linkStarts linkEnds network ownRelease ownDue ownRunning releaseWeight adjustedRelease
-    adjustedDeadline onCycle load room tight screenRules findingOf releases heard doneAt doneOf asleep byteOf rowOf standsAt inRow ranOf afterOf stepOf
+    rules verdictOf pairLinks patternLinks cycleLinks linkStarts linkEnds network ownRelease ownDue ownRunning releaseBy
+    adjustedDeadline onCycle load room tightBy screenRules findingBy releases heard doneAt doneOf asleep byteOf rowOf standsAt inRow ranOf afterOf stepOf
     stateAt shownAt
 marked-cases = refl

@@ -27,9 +27,9 @@ use Rattle.heads.specs.Heads.{openingOf, middleFrom, onOpening, onTasks, onMidd
 use Rattle.reader.specs.Files.{takeHead, takenOf}
 use Rattle.judge.specs.Judgement.{rules, verdictOf}
 use Rattle.network.specs.Network.{pairLinks, patternLinks, cycleLinks, linkStarts, linkEnds, network}
-use Rattle.network.specs.Times.{ownRelease, ownDue, ownRunning, releaseWeight, adjustedRelease, adjustedDeadline}
-use Rattle.network.specs.Causes.{onCycle, load, room, tight}
-use Rattle.screen.specs.Findings.{screenRules, findingOf, adjustRules, adjustedOf, releasesLeft, deadlinesLeft}
+use Rattle.network.specs.Times.{ownRelease, ownDue, ownRunning, releaseBy, adjustedDeadline}
+use Rattle.network.specs.Causes.{onCycle, load, room, tightBy}
+use Rattle.screen.specs.Findings.{screenRules, findingBy, adjustRules, adjustedOf, releasesLeft, deadlinesLeft}
 use Rattle.screen.specs.Heads.{screenedOf, adjustedHead, releasesKept, deadlinesKept}
 use Rattle.cases.specs.Samples.{small, smallHead, fromSeven, toSeven}
 use Rattle.cases.specs.Questions.{Row, Answered, TaskRow, is, says, adjusts, reply, taskNumbers, rawHeadings, rawPairs, lentSet}
@@ -80,6 +80,10 @@ manyPairs hs n =
 -- a chain from task 0 to task 1 to task 2: with deadline d of the last
 chain : ℕ → Set
 chain d = lentSet 1 1 ((12, 2, 3, 9) ∷ (12, 3, 0, 10) ∷ (12, 4, 2, d) ∷ []) ((0, 1, 1) ∷ (1, 2, 1) ∷ []) ((0, 0) ∷ (0, 0) ∷ [])
+
+-- three jobs in a line, each of which needs its whole window
+inLine : Set
+inLine = lentSet 1 3 (replicate 3 (2, 2, 0, 2)) ((0, 1, 1) ∷ (1, 2, 1) ∷ []) ((0, 0) ∷ (0, 0) ∷ [])
 
 -- periods 2 and 4, linked both ways by one pair each
 bothWaysIn : ℕ → ℕ → ℕ → ℕ → Set
@@ -207,16 +211,18 @@ setCases =
     ∷ (ask.screeningHead (smallHead ++ (0 ∷ [])), says (10 ∷ []))
     ∷ (ask.screeningHead (take 16 smallHead), says (10 ∷ []))
     ∷ (ask.screeningHead (set smallHead 2 9), says (10 ∷ []))
-    -- Adjusted times of a chain of three jobs: a release goes on as it is, a deadline leaves room for the successor's running time at each link.
-    ∷ (ask.adjusting (chain 10) (blank 3) (blank 3), adjusts (0 ∷ []) (posAll (3 ∷ 3 ∷ 3 ∷ [])) (posAll (5 ∷ 8 ∷ 12 ∷ [])))
+    -- Adjusted times of a chain of three jobs: at each link a release leaves room for the predecessor's running time, a deadline for the successor's.
+    ∷ (ask.adjusting (chain 10) (blank 3) (blank 3), adjusts (0 ∷ []) (posAll (3 ∷ 5 ∷ 8 ∷ [])) (posAll (5 ∷ 8 ∷ 12 ∷ [])))
+    -- The set of marked case J.
+    ∷ (ask.adjusting inLine (blank 3) (blank 3), adjusts (0 ∷ []) (posAll (0 ∷ 2 ∷ 4 ∷ [])) (subℕ 0 2 ∷ posAll (0 ∷ 2 ∷ [])))
     -- A pair that links jobs twice in a cycle, from the shorter period to the longer and back.
     ∷ (
       ask.adjusting repeated (blank 7) (blank 7),
-      adjusts (0 ∷ []) (posAll (0 ∷ 2 ∷ 4 ∷ 6 ∷ 2 ∷ 6 ∷ 0 ∷ [])) (posAll (2 ∷ 3 ∷ 6 ∷ 7 ∷ 4 ∷ 8 ∷ 8 ∷ [])),
+      adjusts (0 ∷ []) (posAll (0 ∷ 2 ∷ 4 ∷ 6 ∷ 3 ∷ 7 ∷ 0 ∷ [])) (posAll (2 ∷ 3 ∷ 6 ∷ 7 ∷ 4 ∷ 8 ∷ 8 ∷ [])),
     )
     ∷ (
       ask.adjusting repeatedBack (blank 7) (blank 7),
-      adjusts (0 ∷ []) (posAll (0 ∷ 3 ∷ 4 ∷ 7 ∷ 3 ∷ 7 ∷ 0 ∷ [])) (posAll (2 ∷ 4 ∷ 6 ∷ 8 ∷ 3 ∷ 7 ∷ 8 ∷ [])),
+      adjusts (0 ∷ []) (posAll (0 ∷ 4 ∷ 4 ∷ 8 ∷ 3 ∷ 7 ∷ 0 ∷ [])) (posAll (2 ∷ 4 ∷ 6 ∷ 8 ∷ 3 ∷ 7 ∷ 8 ∷ [])),
     )
     -- Of a pair that leads into the next round the first link lies in the cycle and counts, and the last leaves it and does not; alone it is the last.
     ∷ (
@@ -232,7 +238,7 @@ setCases =
     ∷ (ask.adjusting (bothWays 1 1 1) (blank 3) [], adjusts (11 ∷ []) (blank 3) [])
     ∷ (ask.adjusting (bothWays 0 1 1) [] (blank 3), adjusts (10 ∷ []) [] (blank 3))
     -- For C the same, and 10 where a byte is left over.
-    ∷ (ask.adjustingHead smallHead (blank 3) (blank 3), adjusts (0 ∷ []) (posAll (0 ∷ 2 ∷ 0 ∷ [])) (posAll (2 ∷ 4 ∷ 3 ∷ [])))
+    ∷ (ask.adjustingHead smallHead (blank 3) (blank 3), adjusts (0 ∷ []) (posAll (0 ∷ 2 ∷ 1 ∷ [])) (posAll (2 ∷ 4 ∷ 3 ∷ [])))
     ∷ (ask.adjustingHead smallHead (blank 4) (blank 3), adjusts (11 ∷ []) (blank 4) (blank 3))
     ∷ (ask.adjustingHead (smallHead ++ (0 ∷ [])) (blank 3) (blank 3), adjusts (10 ∷ []) (blank 3) (blank 3))
     -- 13: job 1 of task 0 lies on a cycle with job 0 of task 1; with job 0 before it and job 1 after it there is none.
@@ -267,21 +273,24 @@ setCases =
     -- A job that is not its task's first: held back by a late release, and called for by an early deadline.
     ∷ (ask.screening (lentSet 1 1 ((4, 2, 0, 3) ∷ (8, 1, 6, 2) ∷ []) ((1, 0, 1) ∷ []) ((0, 1) ∷ [])), says (15 ∷ 0 ∷ 1 ∷ []))
     ∷ (ask.screening (paired 0 1 1 0), says (15 ∷ 0 ∷ 1 ∷ []))
-    -- Into the next round: within the cycle the first job has two ticks for its three; where the link leaves the cycle nothing is found.
-    ∷ (ask.screening (intoNext 3 ((8, 1, 0, 8) ∷ [])), says (15 ∷ 1 ∷ 0 ∷ []))
+    -- A job whose successor leaves it too little room makes the successor late too, and the lower of the two is named.
+    ∷ (ask.screening (lentSet 1 2 ((10, 3, 0, 6) ∷ (10, 4, 0, 5) ∷ []) ((1, 0, 1) ∷ []) ((0, 0) ∷ [])), says (15 ∷ 0 ∷ 0 ∷ []))
+    -- Into the next round: within the cycle the first job has two ticks for its three, which makes job 2 of task 0 late; where the link leaves the cycle nothing
+    -- is found.
+    ∷ (ask.screening (intoNext 3 ((8, 1, 0, 8) ∷ [])), says (15 ∷ 0 ∷ 2 ∷ []))
     ∷ (ask.screening (intoNext 3 []), says (0 ∷ []))
     ∷ []
 
 -- ==== The definitions answer each of them so.
 pub set-cases : Answered setCases
-unfolding setCases opened tasksOn oneTask patterned paired pairedIn seven sevenIn manyPatterns manyPairs chain bothWays bothWaysIn intoNext
+unfolding setCases opened tasksOn oneTask patterned paired pairedIn seven sevenIn manyPatterns manyPairs chain inLine bothWays bothWaysIn intoNext
     longWayBack threeLinked repeated repeatedBack fullLoad posAll
     blank small smallHead fromSeven toSeven reply taskNumbers rawHeadings rawPairs lentSet least all firstOf total table join gather lcm lcmOf reach
     loops longest.most longest.entry longest.rounds soonest.fewest soonest.due soonest.soonest holds rises pairsIn cycle jobsOf jobsBefore jobs
     cycleFits release due numberOfJob taskOfJob jobOfJob common linkFrom linkTo repeats linksOf links inner editionOf spansOf linksIn attributesFit taskFits
     pairKey pairFits patternKey headingFits patternFits openingFits sound numberAt held gotAt andThen timesFrom taskFrom onTask tasksFrom twoAt onTwo pairsFrom
     countFrom headingAt onHeading onPairs patternFrom onPattern patternsFrom openingOf middleFrom onOpening onTasks onMiddle onPatterns headFrom takeHead takenOf rules
-    verdictOf pairLinks patternLinks cycleLinks linkStarts linkEnds network ownRelease ownDue ownRunning releaseWeight adjustedRelease
-    adjustedDeadline onCycle load room tight screenRules findingOf adjustRules adjustedOf releasesLeft deadlinesLeft screenedOf adjustedHead
+    verdictOf pairLinks patternLinks cycleLinks linkStarts linkEnds network ownRelease ownDue ownRunning releaseBy
+    adjustedDeadline onCycle load room tightBy screenRules findingBy adjustRules adjustedOf releasesLeft deadlinesLeft screenedOf adjustedHead
     releasesKept deadlinesKept
 set-cases = refl

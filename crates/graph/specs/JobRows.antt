@@ -4,9 +4,8 @@ use mathlib.Core.Bool.{Bool, true, false}
 use mathlib.Core.List.{List, [], _∷_}
 use Prim.Native.Nat.{ℕ, _+_, _≤_, _<_, min}
 use native.Mathlib.Omega.{arith}
-use lib.ListN.{length, getD, set, replicate, length-set, length-replicate}
+use lib.ListN.{length, getD, set, length-set}
 use Rattle.vocabulary.specs.Test.{clash}
-use Rattle.vocabulary.specs.StopsAndZeros.{zeros}
 use Rattle.graph.specs.Column.{column, column-long, column-at, column-set, column-kept}
 use Rattle.graph.specs.Pass.{limit, at, Lined, Raised, raised, not-raised, PassingLinks, pass-from, pass-on, pass-end, Settling, settle-from}
 use Rattle.graph.specs.Pass.{still-lined, settle-on, settle-still, settle-end}
@@ -20,10 +19,6 @@ releases rows = column 1 rows
 
 abbrev pub aheads : List (List ℕ) → List ℕ
 aheads rows = column 2 rows
-
--- what a release gains on the way to a successor: nothing
-abbrev pub gains : List (List ℕ) → List ℕ
-gains rows = replicate (length rows) 0
 
 abbrev pub starts : List (List ℕ) → List ℕ
 starts links = column 0 links
@@ -39,103 +34,75 @@ pub record Ready (links rows : List (List ℕ)) : Type 0 where
   pub late : (x : ℕ) → x < length rows → at (aheads rows) x ≤ limit
 
 module _ (links rows : List (List ℕ)) (p : Ready links rows) where
-  pub release-lined : Lined (starts links) (ends links) (gains rows) (releases rows)
-  release-lined =
-      let e : length (releases rows) ≡ length rows = column-long 1 rows in
-      record {
-        long = p .between .long;
-        weights = length-replicate (length rows) 0 ∙ sym e;
-        starts = λ k l. omega (arith, p .between .starts k l);
-        ends = λ k l. omega (arith, p .between .ends k l);
-        light = λ x l. omega (arith, zeros (length rows) x);
-        low = λ x l. p .early x (omega arith);
-      }
-
-  pub ahead-lined : Lined (ends links) (starts links) (runs rows) (aheads rows)
-  ahead-lined =
-      let e : length (aheads rows) ≡ length rows = column-long 2 rows in
-      let b = between-back (starts links) (ends links) (length rows) (p .between) in
+  -- either time, in column c, along links from f to t
+  lined : (c : ℕ) (f t : List ℕ) → Between f t (length rows) → ((x : ℕ) → x < length rows → at (column c rows) x ≤ limit) → Lined f t (runs rows) (column c rows)
+  lined c f t b low =
+      let e : length (column c rows) ≡ length rows = column-long c rows in
       record {
         long = b .long;
         weights = column-long 0 rows ∙ sym e;
         starts = λ k l. omega (arith, b .starts k l);
         ends = λ k l. omega (arith, b .ends k l);
         light = λ x l. p .light x (omega arith);
-        low = λ x l. p .late x (omega arith);
+        low = λ x l. low x (omega arith);
       }
+
+  pub release-lined : Lined (starts links) (ends links) (runs rows) (releases rows)
+  release-lined = lined 1 (starts links) (ends links) (p .between) (p .early)
+
+  pub ahead-lined : Lined (ends links) (starts links) (runs rows) (aheads rows)
+  ahead-lined = lined 2 (ends links) (starts links) (between-back (starts links) (ends links) (length rows) (p .between)) (p .late)
 
 -- ---- one link, from job a to job b
 pub record Hop (a b : ℕ) (rows : List (List ℕ)) : Type 0 where
   pub from : a < length rows
   pub to : b < length rows
-  pub light : at (runs rows) b ≤ limit
+  pub light-from : at (runs rows) a ≤ limit
+  pub light-to : at (runs rows) b ≤ limit
   pub early : at (releases rows) a ≤ limit
   pub late : at (aheads rows) b ≤ limit
 
-pub record Delayed (a b : ℕ) (rows rows′ : List (List ℕ)) (r : Bool) : Type 0 where
+-- one time, in column c, is raised at job b by that of job a and a's running time; the other time, in column o, and the running times stay
+pub record Raises (c o a b : ℕ) (rows rows′ : List (List ℕ)) (r : Bool) : Type 0 where
   pub long : length rows′ ≡ length rows
-  pub same₁ : runs rows′ ≡ runs rows
-  pub same₂ : aheads rows′ ≡ aheads rows
-  pub raised : Raised (gains rows) a b (releases rows) (releases rows′) r
+  pub same : runs rows′ ≡ runs rows
+  pub other : column o rows′ ≡ column o rows
+  pub raised : Raised (runs rows) a b (column c rows) (column c rows′) r
 
-pub record Hastened (a b : ℕ) (rows rows′ : List (List ℕ)) (r : Bool) : Type 0 where
-  pub long : length rows′ ≡ length rows
-  pub same₁ : runs rows′ ≡ runs rows
-  pub same₂ : releases rows′ ≡ releases rows
-  pub raised : Raised (runs rows) b a (aheads rows) (aheads rows′) r
+-- the release of job b, by job a before it
+abbrev pub Delayed : (a b : ℕ) (rows rows′ : List (List ℕ)) (r : Bool) → Type 0
+Delayed a b rows rows′ r = Raises 1 2 a b rows rows′ r
 
-module _ (rows : List (List ℕ)) (a b : ℕ) (h : Hop a b rows) where
-  gain : at (releases rows) a ≡ min (at (releases rows) a + at (gains rows) a) limit
-  gain = omega (arith, zeros (length rows) a, h .early)
+-- how far ahead job a is due, by job b after it
+abbrev pub Hastened : (a b : ℕ) (rows rows′ : List (List ℕ)) (r : Bool) → Type 0
+Hastened a b rows rows′ r = Raises 2 1 b a rows rows′ r
 
-  pub delays : getD (getD rows b []) 1 0 < getD (getD rows a []) 1 0
-      → Delayed a b rows (set rows b (getD (getD rows b []) 0 0 ∷ getD (getD rows a []) 1 0 ∷ getD (getD rows b []) 2 0 ∷ [])) true
-  delays l =
-      let r : List ℕ = getD (getD rows b []) 0 0 ∷ getD (getD rows a []) 1 0 ∷ getD (getD rows b []) 2 0 ∷ [] in
+module _ (c o a b : ℕ) (rows : List (List ℕ)) {s : ℕ} (e : s ≡ min (getD (getD rows a []) c 0 + getD (getD rows a []) 0 0) limit) where
+  brought : s ≡ min (at (column c rows) a + at (runs rows) a) limit
+  brought = omega (arith, e, column-at c rows a, column-at 0 rows a)
+
+  -- the row that job b gets
+  pub raises : (row : List ℕ) → getD row 0 0 ≡ getD (getD rows b []) 0 0 → getD row o 0 ≡ getD (getD rows b []) o 0 → getD row c 0 ≡ s → b < length rows
+      → getD (getD rows b []) c 0 < s → Raises c o a b rows (set rows b row) true
+  raises row er eo es lb l =
       record {
-        long = length-set rows b r;
-        same₁ = column-kept 0 rows b r refl;
-        same₂ = column-kept 2 rows b r refl;
+        long = length-set rows b row;
+        same = column-kept 0 rows b row er;
+        other = column-kept o rows b row eo;
         raised =
-            rw (column-set 1 rows b r)
-            (raised (gains rows) a b (releases rows) (getD (getD rows a []) 1 0) (sym (column-at 1 rows a) ∙ gain) (omega (arith, column-at 1 rows b))
-            (omega (arith, column-long 1 rows, h .to)));
+            rw (column-set c rows b row, es)
+            (raised (runs rows) a b (column c rows) s brought (omega (arith, column-at c rows b)) (omega (arith, column-long c rows)));
       }
 
-  pub not-delays : getD (getD rows a []) 1 0 ≤ getD (getD rows b []) 1 0 → Delayed a b rows rows false
-  not-delays l =
-      record {
-        long = refl;
-        same₁ = refl;
-        same₂ = refl;
-        raised = not-raised (gains rows) a b (releases rows) (getD (getD rows a []) 1 0) (sym (column-at 1 rows a) ∙ gain) (omega (arith, column-at 1 rows b));
-      }
-
-  module _ {s : ℕ} (e : s ≡ min (getD (getD rows b []) 2 0 + getD (getD rows b []) 0 0) limit) where
-    brought : s ≡ min (at (aheads rows) b + at (runs rows) b) limit
-    brought = omega (arith, e, column-at 2 rows b, column-at 0 rows b)
-
-    pub hastens : getD (getD rows a []) 2 0 < s → Hastened a b rows (set rows a (getD (getD rows a []) 0 0 ∷ getD (getD rows a []) 1 0 ∷ s ∷ [])) true
-    hastens l =
-        let r : List ℕ = getD (getD rows a []) 0 0 ∷ getD (getD rows a []) 1 0 ∷ s ∷ [] in
-        record {
-          long = length-set rows a r;
-          same₁ = column-kept 0 rows a r refl;
-          same₂ = column-kept 1 rows a r refl;
-          raised =
-              rw (column-set 2 rows a r)
-              (raised (runs rows) b a (aheads rows) s brought (omega (arith, column-at 2 rows a)) (omega (arith, column-long 2 rows, h .from)));
-        }
-
-    pub not-hastens : s ≤ getD (getD rows a []) 2 0 → Hastened a b rows rows false
-    not-hastens l =
-        record { long = refl; same₁ = refl; same₂ = refl; raised = not-raised (runs rows) b a (aheads rows) s brought (omega (arith, column-at 2 rows a)) }
+  pub not-raises : s ≤ getD (getD rows b []) c 0 → Raises c o a b rows rows false
+  not-raises l =
+      record { long = refl; same = refl; other = refl; raised = not-raised (runs rows) a b (column c rows) s brought (omega (arith, column-at c rows b)) }
 
 -- both: r is whether one of the two changed something
 pub record Hopped (a b : ℕ) (rows rows′ : List (List ℕ)) (r : Bool) : Type 0 where
   pub long : length rows′ ≡ length rows
   pub same : runs rows′ ≡ runs rows
-  pub release : Raised (gains rows) a b (releases rows) (releases rows′) r
+  pub release : Raised (runs rows) a b (releases rows) (releases rows′) r
   pub ahead : Raised (runs rows) b a (aheads rows) (aheads rows′) r
 
 reflag : (w : List ℕ) (a b : ℕ) (v v′ : List ℕ) (r r′ : Bool) → (r′ ≡ false → r ≡ false) → Raised w a b v v′ r → Raised w a b v v′ r′
@@ -148,9 +115,10 @@ hop-on a b rows rows′ r h p =
     record {
       from = omega (arith, h .from, p .long);
       to = omega (arith, h .to, p .long);
-      light = rw (p .same₁) (h .light);
+      light-from = rw (p .same) (h .light-from);
+      light-to = rw (p .same) (h .light-to);
       early = p .raised .low a (h .early);
-      late = rw (p .same₂) (h .late);
+      late = rw (p .other) (h .late);
     }
 
 pub hopped : (a b : ℕ) (rows rows′ rows″ : List (List ℕ)) (r₁ r₂ r : Bool) → Delayed a b rows rows′ r₁ → Hastened a b rows′ rows″ r₂
@@ -158,16 +126,16 @@ pub hopped : (a b : ℕ) (rows rows′ rows″ : List (List ℕ)) (r₁ r₂ r :
 hopped a b rows rows′ rows″ r₁ r₂ r p q h =
     record {
       long = q .long ∙ p .long;
-      same = q .same₁ ∙ p .same₁;
-      release = rw (q .same₂) (reflag (gains rows) a b (releases rows) (releases rows′) r₁ r (λ e. h e .0) (p .raised));
-      ahead = reflag (runs rows) b a (aheads rows) (aheads rows″) r₂ r (λ e. h e .1) (rw (p .same₁, p .same₂) at (q .raised));
+      same = q .same ∙ p .same;
+      release = rw (q .other) (reflag (runs rows) a b (releases rows) (releases rows′) r₁ r (λ e. h e .0) (p .raised));
+      ahead = reflag (runs rows) b a (aheads rows) (aheads rows″) r₂ r (λ e. h e .1) (rw (p .same, p .other) at (q .raised));
     }
 
 -- ---- all links once, up to link k
 pub record Sweeps (links rows rows′ : List (List ℕ)) (k : ℕ) (r : Bool) : Type 0 where
   pub long : length rows′ ≡ length rows
   pub same : runs rows′ ≡ runs rows
-  pub release : PassingLinks (starts links) (ends links) (gains rows) (releases rows) (releases rows′) k r
+  pub release : PassingLinks (starts links) (ends links) (runs rows) (releases rows) (releases rows′) k r
   pub ahead : PassingLinks (ends links) (starts links) (runs rows) (aheads rows) (aheads rows′) k r
 
 module _ (links rows : List (List ℕ)) (p : Ready links rows) where
@@ -176,7 +144,7 @@ module _ (links rows : List (List ℕ)) (p : Ready links rows) where
       record {
         long = refl;
         same = refl;
-        release = pass-from (starts links) (ends links) (gains rows) (releases rows) (release-lined links rows p);
+        release = pass-from (starts links) (ends links) (runs rows) (releases rows) (release-lined links rows p);
         ahead = pass-from (ends links) (starts links) (runs rows) (aheads rows) (ahead-lined links rows p);
       }
 
@@ -201,7 +169,8 @@ module _ (links rows : List (List ℕ)) (p : Ready links rows) where
         record {
           from = omega (arith, q .long);
           to = omega (arith, q .long);
-          light = rw (q .same) (p .light b lb);
+          light-from = rw (q .same) (p .light a la);
+          light-to = rw (q .same) (p .light b lb);
           early = q .release .low a (omega (arith, column-long 1 rows));
           late = q .ahead .low b (omega (arith, column-long 2 rows));
         }
@@ -209,16 +178,15 @@ module _ (links rows : List (List ℕ)) (p : Ready links rows) where
     pub sweep-on : (rows″ : List (List ℕ)) (c r′ : Bool) → Hopped a b rows′ rows″ c → (r′ ≡ false → (r ≡ false) × (c ≡ false))
         → Sweeps links rows rows″ (k + 1) r′
     sweep-on rows″ c r′ h f =
-        let m : length rows′ ≡ length rows = q .long in
-        let h₁ : Raised (gains rows) (at (starts links) k) (at (ends links) k) (releases rows′) (releases rows″) c =
-        rw (start-is, end-is) (rw m at (h .release)) in
+        let h₁ : Raised (runs rows) (at (starts links) k) (at (ends links) k) (releases rows′) (releases rows″) c =
+        rw (start-is, end-is) (rw (q .same) at (h .release)) in
         let h₂ : Raised (runs rows) (at (ends links) k) (at (starts links) k) (aheads rows′) (aheads rows″) c =
         rw (start-is, end-is) (rw (q .same) at (h .ahead)) in
         record {
           long = h .long ∙ q .long;
           same = h .same ∙ q .same;
           release =
-              pass-on (starts links) (ends links) (gains rows) (releases rows) (releases rows′) (releases rows″) k r c r′ (release-lined links rows p)
+              pass-on (starts links) (ends links) (runs rows) (releases rows) (releases rows′) (releases rows″) k r c r′ (release-lined links rows p)
               (q .release) l₁ h₁ f;
           ahead =
               pass-on (ends links) (starts links) (runs rows) (aheads rows) (aheads rows′) (aheads rows″) k r c r′ (ahead-lined links rows p)
@@ -234,7 +202,7 @@ module _ (links rows : List (List ℕ)) (p : Ready links rows) where
 pub record Rounds (links rows rows′ : List (List ℕ)) (s : ℕ) : Type 0 where
   pub long : length rows′ ≡ length rows
   pub same : runs rows′ ≡ runs rows
-  pub release : Settling (starts links) (ends links) (gains rows) (releases rows) (releases rows′) s
+  pub release : Settling (starts links) (ends links) (runs rows) (releases rows) (releases rows′) s
   pub ahead : Settling (ends links) (starts links) (runs rows) (aheads rows) (aheads rows′) s
 
 module _ (links rows : List (List ℕ)) (p : Ready links rows) where
@@ -243,7 +211,7 @@ module _ (links rows : List (List ℕ)) (p : Ready links rows) where
       record {
         long = refl;
         same = refl;
-        release = settle-from (starts links) (ends links) (gains rows) (releases rows) (release-lined links rows p);
+        release = settle-from (starts links) (ends links) (runs rows) (releases rows) (release-lined links rows p);
         ahead = settle-from (ends links) (starts links) (runs rows) (aheads rows) (ahead-lined links rows p);
       }
 
@@ -259,8 +227,8 @@ module _ (links rows : List (List ℕ)) (p : Ready links rows) where
         }
 
     module _ (rows″ : List (List ℕ)) (r : Bool) (w : Sweeps links rows′ rows″ (length links) r) where
-      w₁ : PassingLinks (starts links) (ends links) (gains rows) (releases rows′) (releases rows″) (length (starts links)) r
-      w₁ = let m = q .long in rw (column-long 0 links) (rw m at (w .release))
+      w₁ : PassingLinks (starts links) (ends links) (runs rows) (releases rows′) (releases rows″) (length (starts links)) r
+      w₁ = rw (column-long 0 links) (rw (q .same) at (w .release))
 
       w₂ : PassingLinks (ends links) (starts links) (runs rows) (aheads rows′) (aheads rows″) (length (ends links)) r
       w₂ = rw (column-long 1 links) (rw (q .same) at (w .ahead))
@@ -271,7 +239,7 @@ module _ (links rows : List (List ℕ)) (p : Ready links rows) where
             long = w .long ∙ q .long;
             same = w .same ∙ q .same;
             release =
-                settle-on (starts links) (ends links) (gains rows) (releases rows) (releases rows′) (releases rows″) s r (release-lined links rows p)
+                settle-on (starts links) (ends links) (runs rows) (releases rows) (releases rows′) (releases rows″) s r (release-lined links rows p)
                 (q .release) w₁;
             ahead = settle-on (ends links) (starts links) (runs rows) (aheads rows) (aheads rows′) (aheads rows″) s r (ahead-lined links rows p) (q .ahead) w₂;
           }
@@ -283,7 +251,7 @@ module _ (links rows : List (List ℕ)) (p : Ready links rows) where
             same = w .same ∙ q .same;
             release =
                 rw (column-long 1 rows) at
-                (settle-still (starts links) (ends links) (gains rows) (releases rows) (releases rows′) (releases rows″) s r
+                (settle-still (starts links) (ends links) (runs rows) (releases rows) (releases rows′) (releases rows″) s r
                 (release-lined links rows p) (q .release) w₁ f);
             ahead =
                 rw (column-long 2 rows) at

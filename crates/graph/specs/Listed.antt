@@ -21,7 +21,7 @@ use Rattle.graph.specs.Pass.{limit, at, Lined, Settled, settled-free}
 use Rattle.graph.specs.Cycle.{Between, between-inside, between-back, turned}
 
 -- own numbers and weights that are no greater on the jobs
-rounds-le : (g : Graph) → LinksInside g → (b b′ w w′ : ℕ → ℕ) → ((x : ℕ) → x < g .n → b x ≤ b′ x) → ((x : ℕ) → x < g .n → w x ≤ w′ x) → (s x : ℕ)
+pub rounds-le : (g : Graph) → LinksInside g → (b b′ w w′ : ℕ → ℕ) → ((x : ℕ) → x < g .n → b x ≤ b′ x) → ((x : ℕ) → x < g .n → w x ≤ w′ x) → (s x : ℕ)
     → x < g .n → rounds g b w s x ≤ rounds g b′ w′ s x
 unfolding rounds
 rounds-le g i b b′ w w′ hb hw zero x l = hb x l
@@ -39,7 +39,7 @@ rounds-le g i b b′ w w′ hb hw (suc s) x l =
       hw y (i .starts k lk),
     ))
 
-rounds-alike : (g : Graph) → LinksInside g → (b b′ w w′ : ℕ → ℕ) → ((x : ℕ) → x < g .n → b x ≡ b′ x) → ((x : ℕ) → x < g .n → w x ≡ w′ x) → (s x : ℕ)
+pub rounds-alike : (g : Graph) → LinksInside g → (b b′ w w′ : ℕ → ℕ) → ((x : ℕ) → x < g .n → b x ≡ b′ x) → ((x : ℕ) → x < g .n → w x ≡ w′ x) → (s x : ℕ)
     → x < g .n → rounds g b w s x ≡ rounds g b′ w′ s x
 rounds-alike g i b b′ w w′ hb hw s x l =
     omega (

@@ -60,14 +60,6 @@ module _ (g : Graph) (b w : ℕ → ℕ) where
       go k l (inl e) = rw (e, h k l (eqb-true (g .to k) x e))
       go k l (inr e) = rw e
 
-  -- own numbers that agree on the jobs
-  pub rounds-same : LinksInside g → (b′ : ℕ → ℕ) → ((x : ℕ) → x < g .n → b x ≡ b′ x) → (s x : ℕ) → x < g .n → rounds g b w s x ≡ rounds g b′ w s x
-  unfolding rounds entry
-  rounds-same i b′ h zero x l = h x l
-  rounds-same i b′ h (suc s) x l =
-      entry-same (rounds g b w s) (rounds g b′ w s) x (λ k lk e. rounds-same i b′ h s (g .from k) (i .starts k lk))
-      ∙ ap (λ (a : ℕ). most (brings g w (rounds g b′ w s) x) a (g .e)) (h x l)
-
   -- any family that no link and no own number breaks lies over each round
   pub record Over (v : ℕ → ℕ) : Type 0 where
     pub own : (x : ℕ) → x < g .n → b x ≤ v x

@@ -11,7 +11,7 @@ use Rattle.graph.specs.Graph.{loops}
 use Rattle.kinds.specs.Tasks.{Tasks, Patterns, Set, running}
 use Rattle.kinds.specs.Cycle.{cycle, jobs, jobsOf}
 use Rattle.network.specs.Network.{network}
-use Rattle.network.specs.Times.{ownRunning, adjustedRelease, adjustedDeadline}
+use Rattle.network.specs.Times.{Weight, ownRunning, releaseBy, adjustedRelease, adjustedDeadline}
 
 -- Rule R9.2, which is about 13: job x lies on a cycle when a way of at least one link leads from it to itself
 unfoldable pub onCycle : Tasks → Patterns → ℕ → Bool
@@ -24,16 +24,23 @@ load u = total (λ i. running u i * jobsOf u i) (u .count)
 unfoldable pub room : Set → ℕ
 room s = s .processors * cycle (s .tasks)
 
--- Rule R9.4, which is about 15: adjusted release and running time together are over the adjusted deadline
-unfoldable pub tight : Tasks → Patterns → ℕ → Bool
-tight u v x = ltZ (adjustedDeadline u v x) (pos (adjustedRelease u v x + ownRunning u x))
+-- Rule R9.4, which is about 15: adjusted release and running time together are over the adjusted deadline, for releases over any weight
+unfoldable pub tightBy : Weight → Tasks → Patterns → ℕ → Bool
+tightBy w u v x = ltZ (adjustedDeadline u v x) (pos (releaseBy w u v x + ownRunning u x))
+
+-- and for those of rule R8.3
+abbrev pub tight : Tasks → Patterns → ℕ → Bool
+tight u v x = tightBy ownRunning u v x
 
 -- Rule R7.6: the lowest job on a cycle, and the lowest tight one; as many as there are jobs where there is none
 abbrev pub lowestCycle : Set → ℕ
 lowestCycle s = least (onCycle (s .tasks) (s .patterns)) (jobs (s .tasks))
 
+abbrev pub lowestTightBy : Weight → Set → ℕ
+lowestTightBy w s = least (tightBy w (s .tasks) (s .patterns)) (jobs (s .tasks))
+
 abbrev pub lowestTight : Set → ℕ
-lowestTight s = least (tight (s .tasks) (s .patterns)) (jobs (s .tasks))
+lowestTight s = lowestTightBy ownRunning s
 
 -- Rule R8.4: the times of the jobs of a cycle, in their order
 abbrev pub releasesOf : Set → List ℤ

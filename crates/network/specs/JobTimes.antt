@@ -10,9 +10,8 @@ use native.Mathlib.Omega.{arith}
 use borrow.Author.Tests.{eq-eqb, ne-eqb}
 use lib.Dec.{eqb, ltb}
 use lib.IntN.{ℤ, pos, subℕ}
-use lib.ListN.{length, getD, set, length-replicate}
+use lib.ListN.{length, getD, set}
 use Rattle.vocabulary.specs.Test.{pick, clash, lt-or-le}
-use Rattle.vocabulary.specs.StopsAndZeros.{zeros}
 use Rattle.vocabulary.specs.Least.{least}
 use Rattle.vocabulary.specs.Total.{total-none}
 use Rattle.vocabulary.specs.Table.{table, is-table, length-table, getD-table}
@@ -20,11 +19,11 @@ use Rattle.graph.specs.Graph.{Graph, graphOf, lowest, loops}
 use Rattle.graph.specs.Reach.{Free}
 use Rattle.graph.specs.Longest.{rounds}
 use Rattle.graph.specs.Soonest.{soonest}
-use Rattle.graph.specs.Column.{column-long, column-at}
+use Rattle.graph.specs.Column.{column, column-long, column-at}
 use Rattle.graph.specs.Pass.{limit, at, Settled}
 use Rattle.graph.specs.Cycle.{Between, Falling, fallen, fallen-free}
 use Rattle.graph.specs.JobRows as row
-use Rattle.graph.specs.JobRows.{starts, ends, gains, Ready, Rounds}
+use Rattle.graph.specs.JobRows.{starts, ends, Ready, Rounds}
 use Rattle.graph.specs.SearchRows.{SearchAsked}
 use Rattle.graph.specs.Listed.{Weighted, settled-rounds, settled-soonest}
 use Rattle.vocabulary.specs.Least.{least-is}
@@ -36,7 +35,7 @@ use Rattle.kinds.specs.Cycle.{cycle, jobsOf, jobsBefore, jobs}
 use Rattle.kinds.specs.Jobs.{release, due, numberOfJob, taskOfJob, jobOfJob}
 use Rattle.kinds.proofs.SoundFacts.{Sound}
 use Rattle.laws.specs.Order.{before-suc, before-up, number-sum, task-of-number, job-of-number}
-use Rattle.network.specs.Times.{ownRelease, ownDue, ownRunning, releaseWeight}
+use Rattle.network.specs.Times.{ownRelease, ownDue, ownRunning}
 use Rattle.network.specs.TimesLaws.{own-release-low, own-due-low, own-running-low}
 use Rattle.network.specs.declared.Lowest.{Lowest}
 use Rattle.network.specs.Placed.{Placed, place-from, place-on}
@@ -237,7 +236,7 @@ pub record TimesIn (u : Tasks) (links rows : List (List ℕ)) : Type 0 where
   pub sized : length rows ≡ jobs u
   pub runs : (x : ℕ) → x < jobs u → at (row.runs rows) x ≡ ownRunning u x
   pub releases : (x : ℕ) → x < jobs u
-      → at (row.releases rows) x ≡ rounds (graphOf (starts links) (ends links) (jobs u)) (ownRelease u) (releaseWeight u) (jobs u) x
+      → at (row.releases rows) x ≡ rounds (graphOf (starts links) (ends links) (jobs u)) (ownRelease u) (ownRunning u) (jobs u) x
   pub deadlines : (x : ℕ) → x < jobs u
       → subℕ top (at (row.aheads rows) x) ≡ soonest (graphOf (starts links) (ends links) (jobs u)) (ownDue u) (ownRunning u) (jobs u) x
   pub light : (x : ℕ) → x < jobs u → at (row.runs rows) x ≤ 6000
@@ -272,29 +271,17 @@ module _ (u : Tasks) (h : ℕ) (links rows₀ rows : List (List ℕ)) (a : Round
         late = λ x l. omega (arith, ahead-is x (here x l));
       }
 
-  release-weights : Weighted (gains rows) (row.releases rows) (jobs u) (ownRelease u) (releaseWeight u) top 0
-  unfolding releaseWeight
-  release-weights =
-      record {
-        weights = length-replicate (length rows) 0 ∙ own .sized;
-        numbers = column-long 1 rows ∙ own .sized;
-        weight = λ x l. zeros (length rows) x;
-        own = release-is;
-        light = λ x l. omega arith;
-        low = a .own .fit .early;
-        small = omega arith;
-        heavy = omega arith;
-      }
-
-  ahead-weights : Weighted (row.runs rows) (row.aheads rows) (jobs u) (λ x. top - ownDue u x) (ownRunning u) top 6000
-  ahead-weights =
+  -- either time, in column c, from own numbers b: each link adds a running time
+  weights : (c : ℕ) (b : ℕ → ℕ) → ((x : ℕ) → x < jobs u → at (column c rows) x ≡ b x) → ((x : ℕ) → x < jobs u → b x ≤ top)
+      → Weighted (row.runs rows) (column c rows) (jobs u) b (ownRunning u) top 6000
+  weights c b is low =
       record {
         weights = column-long 0 rows ∙ own .sized;
-        numbers = column-long 2 rows ∙ own .sized;
+        numbers = column-long c rows ∙ own .sized;
         weight = run-is;
-        own = ahead-is;
+        own = is;
         light = a .own .fit .light;
-        low = λ x l. omega arith;
+        low = low;
         small = omega (arith, a .own .fit .few-jobs);
         heavy = omega arith;
       }
@@ -302,18 +289,18 @@ module _ (u : Tasks) (h : ℕ) (links rows₀ rows : List (List ℕ)) (a : Round
   -- ==== what the rounds leave
   times-are : (rows′ : List (List ℕ)) → Rounds links rows rows′ (length rows) → Free (graphOf (starts links) (ends links) (jobs u)) → TimesIn u links rows′
   times-are rows′ p free =
-      let settled₁ : Settled (starts links) (ends links) (gains rows) (row.releases rows) (row.releases rows′) = rw (column-long 1 rows) (p .release) in
+      let settled₁ : Settled (starts links) (ends links) (row.runs rows) (row.releases rows) (row.releases rows′) = rw (column-long 1 rows) (p .release) in
       let settled₂ : Settled (ends links) (starts links) (row.runs rows) (row.aheads rows) (row.aheads rows′) = rw (column-long 2 rows) (p .ahead) in
       let run′ : (x : ℕ) → x < jobs u → at (row.runs rows′) x ≡ ownRunning u x = λ x l. ap (λ (xs : List ℕ). at xs x) (p .same) ∙ run-is x l in
       record {
         sized = p .long ∙ own .sized;
         runs = run′;
         releases =
-            settled-rounds (starts links) (ends links) (gains rows) (row.releases rows) (jobs u) (ownRelease u) (releaseWeight u) top 0
-            (a .between) release-weights (row.releases rows′) settled₁ free;
+            settled-rounds (starts links) (ends links) (row.runs rows) (row.releases rows) (jobs u) (ownRelease u) (ownRunning u) top 6000
+            (a .between) (weights 1 (ownRelease u) release-is (a .own .fit .early)) (row.releases rows′) settled₁ free;
         deadlines =
             settled-soonest (starts links) (ends links) (row.runs rows) (row.aheads rows) (row.aheads rows′) (jobs u) top 6000 (ownDue u)
-            (ownRunning u) (a .between) ahead-weights settled₂ free (a .own .fit .late);
+            (ownRunning u) (a .between) (weights 2 (λ x. top - ownDue u x) ahead-is (λ x l. omega arith)) settled₂ free (a .own .fit .late);
         light = λ x l. omega (arith, run′ x l, a .own .fit .light x l);
         early = λ x l. p .release .low x (omega (arith, column-long 1 rows, own .sized));
         late = λ x l. p .ahead .low x (omega (arith, column-long 2 rows, own .sized));

@@ -34,8 +34,8 @@ use Rattle.network.specs.declared.Lowest.{Lowest}
 use Rattle.network.specs.declared.Found.{Found}
 use Rattle.network.specs.Network.{network}
 use Rattle.network.specs.NetworkLaws.{jobs-of-network}
-use Rattle.network.specs.Times.{ownRelease, ownDue, ownRunning, releaseWeight, adjustedRelease, adjustedDeadline}
-use Rattle.network.specs.Causes.{onCycle, load, room, tight, lowestCycle, lowestTight, releasesOf, deadlinesOf}
+use Rattle.network.specs.Times.{ownRelease, ownDue, ownRunning, releaseBy, adjustedRelease, adjustedDeadline}
+use Rattle.network.specs.Causes.{onCycle, load, room, tightBy, tight, lowestCycle, lowestTight, releasesOf, deadlinesOf}
 use Rattle.network.specs.FoundOf.{lowestOver, foundBy, noneFound, foundOf, timesFit, releasesPut, deadlinesPut, SolvedFor}
 use Rattle.heads.specs.Tables.{PatternTables}
 use Rattle.reader.specs.Files.{takenOf, notTaken}
@@ -57,10 +57,10 @@ module _ (s : Set) (f : Sound s) (e : ℕ) (v rows : List (List ℕ)) (w : Wired
 
   module _ (p : TimesIn (s .tasks) (take e v) rows) where
     release-is : (x : ℕ) → x < jobs (s .tasks) → at (row.releases rows) x ≡ adjustedRelease (s .tasks) (s .patterns) x
-    unfolding adjustedRelease
+    unfolding releaseBy
     release-is x l =
         p .releases x l
-        ∙ ap₂ (λ (g : Graph) (n : ℕ). rounds g (ownRelease u) (releaseWeight u) n x) (wired-network s f e v w) (sym (jobs-of-network u (s .patterns)))
+        ∙ ap₂ (λ (g : Graph) (n : ℕ). rounds g (ownRelease u) (ownRunning u) n x) (wired-network s f e v w) (sym (jobs-of-network u (s .patterns)))
 
     deadline-is : (x : ℕ) → x < jobs (s .tasks) → subℕ top (at (row.aheads rows) x) ≡ adjustedDeadline (s .tasks) (s .patterns) x
     unfolding adjustedDeadline
@@ -69,7 +69,7 @@ module _ (s : Set) (f : Sound s) (e : ℕ) (v rows : List (List ℕ)) (w : Wired
         ∙ ap₂ (λ (g : Graph) (n : ℕ). soonest g (ownDue u) (ownRunning u) n x) (wired-network s f e v w) (sym (jobs-of-network u (s .patterns)))
 
     over-is-tight : (x : ℕ) → x < jobs (s .tasks) → over rows x ≡ tight (s .tasks) (s .patterns) x
-    unfolding over tight
+    unfolding over tightBy
     over-is-tight x l =
         sym (below-sub top (at (row.releases rows) x + at (row.runs rows) x) (at (row.aheads rows) x))
         ∙ ap₂ (λ (d : ℤ) (r : ℕ). ltZ d (pos r)) (deadline-is x l) (ap₂ _+_ (release-is x l) (p .runs x l))

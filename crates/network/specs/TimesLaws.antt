@@ -16,12 +16,7 @@ use Rattle.laws.specs.Order.{task-low}
 use Rattle.laws.specs.Back.{job-of-low}
 use Rattle.network.specs.Network.{network}
 use Rattle.network.specs.NetworkLaws.{jobs-of-network, inside-network}
-use Rattle.network.specs.Times.{ownRelease, ownDue, ownRunning, releaseWeight, adjustedRelease, adjustedDeadline}
-
--- a link adds at most its first job's running time
-pub release-weight-low : (u : Tasks) (x : ℕ) → releaseWeight u x ≤ ownRunning u x
-unfolding releaseWeight
-release-weight-low u x = omega arith
+use Rattle.network.specs.Times.{ownRelease, ownDue, ownRunning, releaseBy, adjustedRelease, adjustedDeadline}
 
 -- how far before tick 12,000 a job has to be done, in natural numbers
 abbrev pub ahead : Tasks → Patterns → ℕ → ℕ
@@ -67,14 +62,14 @@ module _ (s : Set) (f : Sound s) where
 
   -- each round adds at most one running time
   pub adjusted-release-low : (x : ℕ) → x < jobs (s .tasks) → adjustedRelease (s .tasks) (s .patterns) x ≤ 12300000
-  unfolding adjustedRelease
+  unfolding releaseBy
   adjusted-release-low x l =
       let g : Graph = network u v in
       omega (
         arith,
-        rounds-bound g (ownRelease u) (releaseWeight u) (inside-network s f) 12000 6000
+        rounds-bound g (ownRelease u) (ownRunning u) (inside-network s f) 12000 6000
             (λ y ly. omega (arith, own-release-low y (rw jobs-of-network at ly)))
-            (λ y ly. omega (arith, release-weight-low u y, own-running-low y (rw jobs-of-network at ly))) (g .n) x (rw jobs-of-network l),
+            (λ y ly. own-running-low y (rw jobs-of-network at ly)) (g .n) x (rw jobs-of-network l),
         jobs-of-network u v,
         f .few-jobs,
       )

@@ -17,15 +17,16 @@ fn capped(a: u32, b: u32) -> u32
     if a + b < 16777216 { a + b } else { 16777216 }
 }
 
-// Job b is not released before job a; whether it was.
+// Job b is not released before job a has had time to run; whether it was.
 fn delay(jobs: &mut [[u32; 3]], a: usize, b: usize) -> bool
     requires { ⌜ Hop a b (now jobs) ⌝ }
     ensures { λ r. ⌜ Delayed a b (now (jobs .entry)) (now (jobs .exit)) r ⌝ }
 {
     let p = jobs[a];
     let q = jobs[b];
-    if q[1] < p[1] {
-        jobs[b] = [q[0], p[1], q[2]];
+    let s = capped(p[1], p[0]);
+    if q[1] < s {
+        jobs[b] = [q[0], s, q[2]];
         return true;
     }
     false

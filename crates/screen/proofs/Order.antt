@@ -9,32 +9,32 @@ use Rattle.kinds.specs.Cycle.{jobs}
 use Rattle.kinds.specs.Jobs.{taskOfJob, jobOfJob}
 use Rattle.kinds.specs.Sound.{sound}
 use Rattle.network.specs.Causes.{load, room, lowestCycle, lowestTight}
-use Rattle.screen.specs.Findings.{screenRules, findingOf, adjustRules, adjustedOf}
+use Rattle.screen.specs.Findings.{screenRules, findingBy, findingOf, adjustRules, adjustedOf}
 use Rattle.screen.specs.declared.Finding.the-variants as finding
 use Rattle.screen.specs.declared.Adjusted.the-variants as adjusted
 
 pub not-sound : (s : Set) → sound s ≡ false → findingOf s ≡ finding.BadSet
-unfolding findingOf screenRules firstOf
+unfolding findingBy screenRules firstOf
 not-sound s e = rw e
 
 module _ (s : Set) (e : sound s ≡ true) where
   pub on-cycle : lowestCycle s < jobs (s .tasks) → findingOf s ≡ finding.Cycle (taskOfJob (s .tasks) (lowestCycle s)) (jobOfJob (s .tasks) (lowestCycle s))
-  unfolding findingOf screenRules firstOf
+  unfolding findingBy screenRules firstOf
   on-cycle l = rw (e, lt-ltb _ _ l)
 
   module _ (free : jobs (s .tasks) ≤ lowestCycle s) where
     pub overloaded : room s < load (s .tasks) → findingOf s ≡ finding.Overload (load (s .tasks)) (room s)
-    unfolding findingOf screenRules firstOf
+    unfolding findingBy screenRules firstOf
     overloaded l = rw (e, le-ltb _ _ free, lt-ltb _ _ l)
 
     module _ (light : load (s .tasks) ≤ room s) where
       pub too-tight : lowestTight s < jobs (s .tasks)
           → findingOf s ≡ finding.TooTight (taskOfJob (s .tasks) (lowestTight s)) (jobOfJob (s .tasks) (lowestTight s))
-      unfolding findingOf screenRules firstOf
+      unfolding findingBy screenRules firstOf
       too-tight l = rw (e, le-ltb _ _ free, le-ltb _ _ light, lt-ltb _ _ l)
 
       pub nothing-found : jobs (s .tasks) ≤ lowestTight s → findingOf s ≡ finding.Nothing
-      unfolding findingOf screenRules firstOf
+      unfolding findingBy screenRules firstOf
       nothing-found l = rw (e, le-ltb _ _ free, le-ltb _ _ light, le-ltb _ _ l)
 
 -- ---- each answer, for buffers of p and q places

@@ -16,22 +16,27 @@ use Rattle.screen.specs.declared.Finding.the-variants as finding
 use Rattle.screen.specs.declared.Adjusted.{Adjusted}
 use Rattle.screen.specs.declared.Adjusted.the-variants as adjusted
 use Rattle.screen.specs.Answers.{written}
-use Rattle.network.specs.Causes.{load, room, lowestCycle, lowestTight, releasesOf, deadlinesOf}
+use Rattle.network.specs.Times.{Weight, ownRunning}
+use Rattle.network.specs.Causes.{load, room, lowestCycle, lowestTightBy, releasesOf, deadlinesOf}
 
--- Rule R9.5: the findings in their order.
-unfoldable pub screenRules : Set → List (Rule Finding)
-screenRules s =
+-- Rule R9.5: the findings in their order, for releases over any weight.
+unfoldable pub screenRules : Weight → Set → List (Rule Finding)
+screenRules w s =
     let u : Tasks = s .tasks in
     let x : ℕ = lowestCycle s in
-    let y : ℕ = lowestTight s in
+    let y : ℕ = lowestTightBy w s in
     rule 10 (not (sound s)) finding.BadSet
     ∷ rule 13 (ltb x (jobs u)) (finding.Cycle (taskOfJob u x) (jobOfJob u x))
     ∷ rule 14 (ltb (room s) (load u)) (finding.Overload (load u) (room s))
     ∷ rule 15 (ltb y (jobs u)) (finding.TooTight (taskOfJob u y) (jobOfJob u y))
     ∷ []
 
-unfoldable pub findingOf : Set → Finding
-findingOf s = firstOf (screenRules s) finding.Nothing
+unfoldable pub findingBy : Weight → Set → Finding
+findingBy w s = firstOf (screenRules w s) finding.Nothing
+
+-- and for those of rule R8.3
+abbrev pub findingOf : Set → Finding
+findingOf s = findingBy ownRunning s
 
 -- ---- Rule R8.5: the refusals of the call for adjusted times in their order. Here p and q are the lengths of the two buffers.
 unfoldable pub adjustRules : Set → ℕ → ℕ → List (Rule Adjusted)

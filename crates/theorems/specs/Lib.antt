@@ -16,6 +16,8 @@ pub mod Adjusted
 pub mod ScreenJobs
 pub mod ScreenLoad
 pub mod ScreenFinal
+pub mod LateJobs
+pub mod OldReleases
 pub mod Demand3Terms
 pub mod OneTask
 pub mod Demand3Plans

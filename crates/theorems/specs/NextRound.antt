@@ -24,7 +24,7 @@ use Rattle.laws.specs.Blocks.{NextBlock, leads-on}
 use Rattle.laws.specs.JobTicks.{gets-later}
 use Rattle.judge.specs.declared.Verdict.the-variants as verdict
 use Rattle.judge.specs.Judgement.{rules, verdictOf}
-use Rattle.screen.specs.Findings.{screenRules, findingOf, adjustRules, adjustedOf}
+use Rattle.screen.specs.Findings.{screenRules, findingBy, findingOf, adjustRules, adjustedOf}
 use Rattle.network.specs.Causes.{room, releasesOf, deadlinesOf}
 use Rattle.network.specs.NetworkLaws.{Made, LinkedJobs, each-made, each-linked}
 use Rattle.theorems.specs.Names.{Breach, Names}
@@ -79,7 +79,7 @@ module _ (s : Set) (e : ℕ) (here : sound s ≡ true) (there : sound (inEdition
 
   -- ==== the same finding,
   pub same-finding : findingOf (inEdition e s) ≡ findingOf s
-  unfolding findingOf screenRules room
+  unfolding findingBy screenRules room
   same-finding = rw (here, there)
 
   -- ==== and the same adjusted times.

@@ -10,13 +10,14 @@ use lib.Signed.{ltZ}
 use lib.ListN.{length}
 use borrow.Author.Tests.{not-false}
 use Rattle.vocabulary.specs.Test.{pick}
+use Rattle.vocabulary.specs.First.{first-same}
 use Rattle.vocabulary.specs.Least.{least, least-same}
 use Rattle.vocabulary.specs.Total.{total, total-same}
 use Rattle.vocabulary.specs.Table.{table, join, gather}
 use Rattle.vocabulary.specs.Lists.{join-same}
 use Rattle.graph.specs.Graph.{Graph, LinksInside, loops}
 use Rattle.graph.specs.Longest.{rounds}
-use Rattle.graph.specs.Settle.{rounds-same}
+use Rattle.graph.specs.Listed.{rounds-alike}
 use Rattle.graph.specs.Soonest as soonest
 use Rattle.kinds.specs.Tasks.{Tasks, Patterns, Set, running, fromTask, toTask, pairCount}
 use Rattle.kinds.specs.Cycle.{jobsOf, jobs}
@@ -28,16 +29,16 @@ use Rattle.kinds.proofs.WhatCounts.{Agree, cycle-agree, jobs-of-agree, jobs-agr
 use Rattle.laws.specs.Order.{task-low}
 use Rattle.network.specs.Network.{linkOf, pairLinks, patternLinks, cycleLinks, linkStarts, linkEnds, network}
 use Rattle.network.specs.NetworkLaws.{jobs-of-network, inside-network}
-use Rattle.network.specs.Times.{ownRelease, ownDue, ownRunning, releaseWeight, adjustedRelease, adjustedDeadline}
-use Rattle.network.specs.Causes.{onCycle, load, room, tight, lowestCycle, lowestTight, releasesOf, deadlinesOf}
+use Rattle.network.specs.Times.{ownRelease, ownDue, ownRunning, releaseBy, adjustedRelease, adjustedDeadline}
+use Rattle.network.specs.Causes.{onCycle, load, room, tightBy, tight, lowestCycle, lowestTight, releasesOf, deadlinesOf}
 use Rattle.network.specs.JobTimes.{table-same}
 use Rattle.screen.specs.declared.Finding.the-variants as finding
 use Rattle.screen.specs.declared.Adjusted.{Adjusted}
 use Rattle.screen.specs.declared.Adjusted.the-variants as adjusted
 use Rattle.screen.specs.Answers.{written}
-use Rattle.screen.specs.Findings.{screenRules, findingOf, adjustRules, adjustedOf, releasesLeft, deadlinesLeft}
+use Rattle.screen.specs.Findings.{screenRules, findingBy, findingOf, adjustRules, adjustedOf, releasesLeft, deadlinesLeft}
 use Rattle.screen.proofs.Order.{unsound-set}
-use Rattle.theorems.specs.SameTasks.{first-same, same-running, same-release, same-due, same-task, same-job, same-number, same-from, same-to}
+use Rattle.theorems.specs.SameTasks.{same-running, same-release, same-due, same-task, same-job, same-number, same-from, same-to}
 use Rattle.theorems.specs.SameTasks.{same-pairs, same-repeats, same-jobs-from, same-jobs-to, same-link-from, same-link-to}
 
 -- ---- gatherings, and deadlines in rounds, that agree where it counts
@@ -147,11 +148,11 @@ module _ (s t : Set) (g : Agree s t) (f : Sound s) where
 
   module _ (x : ℕ) (l : x < jobs u) where
     same-adjusted-release : adjustedRelease u v x ≡ adjustedRelease w z x
-    unfolding adjustedRelease releaseWeight
+    unfolding releaseBy
     same-adjusted-release =
-        rounds-same (network u v) (ownRelease u) (releaseWeight u) (inside-network s f) (ownRelease w) (λ y h. own-release y (low-job y h))
-        (network u v .n) x (rw jobs-of-network l)
-        ∙ ap (λ (h : Graph). rounds h (ownRelease w) (releaseWeight w) (h .n) x) same-network
+        rounds-alike (network u v) (inside-network s f) (ownRelease u) (ownRelease w) (ownRunning u) (ownRunning w) (λ y h. own-release y (low-job y h))
+        (λ y h. own-running y (low-job y h)) (network u v .n) x (rw jobs-of-network l)
+        ∙ ap (λ (h : Graph). rounds h (ownRelease w) (ownRunning w) (h .n) x) same-network
 
     same-adjusted-deadline : adjustedDeadline u v x ≡ adjustedDeadline w z x
     unfolding adjustedDeadline
@@ -161,7 +162,7 @@ module _ (s t : Set) (g : Agree s t) (f : Sound s) where
         ∙ ap (λ (h : Graph). soonest.soonest h (ownDue w) (ownRunning w) (h .n) x) same-network
 
     same-tight : tight u v x ≡ tight w z x
-    unfolding tight
+    unfolding tightBy
     same-tight =
         ap₂ (λ (d : ℤ) (r : ℕ). ltZ d (pos r)) same-adjusted-deadline (ap₂ _+_ same-adjusted-release (own-running x l))
 
@@ -184,7 +185,7 @@ module _ (s t : Set) (g : Agree s t) (f : Sound s) where
 
 -- ==== Entries beyond the counts count for nothing: sets that agree on the counts and on the entries within them get the same finding,
 pub same-finding-of : (s t : Set) → Agree s t → findingOf s ≡ findingOf t
-unfolding findingOf screenRules
+unfolding findingBy screenRules
 same-finding-of s t g =
     first-same _ _ _ _ _ (ap not (sound-agree s t g)) (λ e. refl)
     (λ e.

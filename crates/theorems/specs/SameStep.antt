@@ -9,6 +9,7 @@ use lib.Dec.{eqb, leb, ltb}
 use lib.ListN.{length}
 use borrow.Author.Tests.{ltb-false, eqb-false}
 use Rattle.vocabulary.specs.Test.{pick, bit}
+use Rattle.vocabulary.specs.First.{first-same}
 use Rattle.vocabulary.specs.Least.{least, some, some-not}
 use Rattle.vocabulary.specs.Bits.{has, pack}
 use Rattle.vocabulary.specs.Table.{table}
@@ -23,7 +24,7 @@ use Rattle.dispatcher.specs.Refusals.{impossible, overreports, highSlot, isHigh
 use Rattle.dispatcher.specs.Refusals.{answerOf, stepped, steppedOf, leftOf}
 use Rattle.dispatcher.proofs.RowLaws.{table-same}
 use Rattle.dispatcher.proofs.StepFacts.{shown-kept, when-shown, when-refused, shown-or-not}
-use Rattle.theorems.specs.SameTasks.{first-same, same-period, same-offset}
+use Rattle.theorems.specs.SameTasks.{same-period, same-offset}
 
 -- words of marks that agree below n
 pack-same : (f g : ℕ → Bool) (n : ℕ) → ((i : ℕ) → i < n → f i ≡ g i) → pack f n ≡ pack g n

@@ -6,7 +6,6 @@ use Prim.Native.Nat.{ℕ, suc, _+_, _-_, _*_, _/_, _<_, _≤_}
 use native.Mathlib.Omega.{arith}
 use lib.Dec.{leb, ltb}
 use Rattle.vocabulary.specs.Test.{pick}
-use Rattle.vocabulary.specs.First.{Rule, firstOf}
 use Rattle.vocabulary.specs.Least.{least, least-is, least-same, some, greatest}
 use Rattle.vocabulary.specs.Count.{count, count-same}
 use Rattle.vocabulary.specs.Total.{total-up}
@@ -19,17 +18,6 @@ use Rattle.kinds.specs.Plans.{Plan, plan, planOf, shown, awake, runs, ticks, ru
 use Rattle.kinds.proofs.SoundFacts.{Sound}
 use Rattle.kinds.proofs.PatternWalk.{before-more}
 use Rattle.kinds.proofs.WhatCounts.{Agree, cycle-agree, jobs-of-agree, jobs-before-agree, before-agree, common-agree}
-
--- two chains of rules answer the same where each rule is broken in both or in none: its answer counts only where it is, and what stands behind it where
--- it is not
-pub first-same : {A : Type 0} (r x : Rule A) (rs xs : List (Rule A)) (d : A) → r .broken ≡ x .broken → (r .broken ≡ true → r .answer ≡ x .answer)
-    → (r .broken ≡ false → firstOf rs d ≡ firstOf xs d) → firstOf (r ∷ rs) d ≡ firstOf (x ∷ xs) d
-unfolding firstOf
-first-same r x rs xs d e f g = go (r .broken) refl
-  where
-    go : (b : Bool) → r .broken ≡ b → pick b (r .answer) (firstOf rs d) ≡ pick (x .broken) (x .answer) (firstOf xs d)
-    go true h = f h ∙ ap (λ (c : Bool). pick c (x .answer) (firstOf xs d)) (sym h ∙ e)
-    go false h = g h ∙ ap (λ (c : Bool). pick c (x .answer) (firstOf xs d)) (sym h ∙ e)
 
 module _ (s t : Set) (g : Agree s t) where
   -- ---- a task's numbers

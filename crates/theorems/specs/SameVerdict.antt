@@ -9,7 +9,7 @@ use lib.Dec.{eqb, leb}
 use lib.ListN.{length, getD, List·getD-eq-default}
 use borrow.Author.Tests.{ltb-false, eqb-false, not-false}
 use Rattle.vocabulary.specs.Test.{lt-or-le}
-use Rattle.vocabulary.specs.First.{firstOf}
+use Rattle.vocabulary.specs.First.{firstOf, first-same}
 use Rattle.vocabulary.specs.Least.{least, some, some-at, some-not, some-same, least-same}
 use Rattle.kinds.specs.Tasks.{Tasks, Patterns, Set, period, offset, deadline, fromTask, toTask, pairCount}
 use Rattle.kinds.specs.Cycle.{cycle, jobsOf}
@@ -26,7 +26,7 @@ use Rattle.judge.specs.Rules.{strays, strayed, miscounts, miscounted, against, 
 use Rattle.judge.specs.Judgement.{highAt, outsideAt, wrongAt, brokenAt, planRules, rules, verdictOf}
 use Rattle.dispatcher.specs.declared.State.{State}
 use Rattle.dispatcher.specs.Refusals.{startedOf}
-use Rattle.theorems.specs.SameTasks.{first-same, same-period, same-running, same-offset, same-deadline, same-plan, same-release, same-past}
+use Rattle.theorems.specs.SameTasks.{same-period, same-running, same-offset, same-deadline, same-plan, same-release, same-past}
 use Rattle.theorems.specs.SameTasks.{same-ticks, same-first-tick, same-last-tick, same-from, same-to, same-pairs, same-repeats}
 use Rattle.theorems.specs.SameTasks.{same-link-from, same-link-to}
 

@@ -6,7 +6,7 @@ use Prim.Native.Nat.{ℕ, _+_, _*_, _<_}
 use native.Mathlib.Omega.{arith}
 use lib.Dec.{eqb, ltb}
 use lib.ListN.{length}
-use Rattle.vocabulary.specs.First.{firstOf}
+use Rattle.vocabulary.specs.First.{firstOf, first-same}
 use Rattle.vocabulary.specs.Least.{least, some}
 use Rattle.vocabulary.specs.Table.{join}
 use Rattle.vocabulary.specs.Lists.{join-same}
@@ -19,7 +19,6 @@ use Rattle.writer.specs.declared.Written.{Written}
 use Rattle.writer.specs.declared.Written.the-variants as written
 use Rattle.writer.specs.Format.{taskNumbers, pairNumbers, patternNumbers, headNumbers, headBytes, bytesOf}
 use Rattle.writer.proofs.Turns.{two-same, four-same}
-use Rattle.theorems.specs.SameTasks.{first-same}
 use Rattle.writer.specs.Writing.{rules, writtenOf, writeFor}
 
 -- equal numbers make equal lists

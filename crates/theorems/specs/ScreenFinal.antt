@@ -25,9 +25,9 @@ use Rattle.laws.specs.Order.{task-low, task-of-number, job-of-number}
 use Rattle.screen.specs.declared.Finding.the-variants as finding
 use Rattle.network.specs.Network.{network}
 use Rattle.network.specs.NetworkLaws.{jobs-of-network, inside-network, inner-low, Made, each-made}
-use Rattle.network.specs.Times.{ownRelease, ownDue, ownRunning, releaseWeight, adjustedRelease}
-use Rattle.network.specs.TimesLaws.{own-due-low, some-own-running, release-weight-low, ahead, adjusted-deadline-is}
-use Rattle.network.specs.Causes.{tight}
+use Rattle.network.specs.Times.{ownRelease, ownDue, ownRunning, releaseBy, adjustedRelease}
+use Rattle.network.specs.TimesLaws.{own-due-low, some-own-running, ahead, adjusted-deadline-is}
+use Rattle.network.specs.Causes.{tightBy, tight}
 use Rattle.screen.specs.Findings.{findingOf}
 use Rattle.theorems.specs.ScreenTimes.{NoCycle}
 use Rattle.theorems.specs.ScreenTrue.{tight-iff, Finds, only-finding}
@@ -118,14 +118,14 @@ module _ (s : Set) (f : Sound s) (slots : List ℕ) (valid : Valid s (planOf s s
   none-on-cycle = record { each = λ x l w. no-ring (jobsIn s) (gets u p) given x (rw jobs-of-network l) w }
 
   none-tight : (x : ℕ) → x < jobs (s .tasks) → tight (s .tasks) (s .patterns) x ≡ true → ⊥
-  unfolding tight adjustedRelease
+  unfolding tightBy releaseBy
   none-tight x l e =
       let g : Graph = network u v in
       let b : 12000 < adjustedRelease u v x + ownRunning u x + ahead u v x =
       over 12000 (ahead u v x) (adjustedRelease u v x + ownRunning u x) (rw (adjusted-deadline-is s f x l) at e) in
       omega (
         arith,
-        room-between (jobsIn s) (gets u p) given (releaseWeight u) (λ y ly. release-weight-low u y) 12000
+        room-between (jobsIn s) (gets u p) given (ownRunning u) (λ y ly. omega arith) 12000
             (λ y ly. own-due-low s f y (rw jobs-of-network at ly)) (g .n) (g .n) x
             (rw jobs-of-network l),
       )
@@ -141,7 +141,7 @@ no-finding s e slots valid =
       is-sound = e;
       no-cycle = free;
       no-overload = load-fits s f (planOf s slots) refl refl (valid .exact);
-      none-tight = λ x l t. none-tight s f slots valid x l (tight-iff s e free x l .1 t);
+      none-tight = λ x l t. none-tight s f slots valid x l (tight-iff s e ownRunning free x l .1 t);
     }))
 
 -- ==== So a finding is final: after one, no plan of the set is valid, whatever its slots.

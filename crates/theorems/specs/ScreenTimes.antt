@@ -19,7 +19,8 @@ use Rattle.kinds.specs.Sound.{sound}
 use Rattle.kinds.proofs.SoundFacts.{Sound, sound-facts}
 use Rattle.network.specs.Network.{network}
 use Rattle.network.specs.NetworkLaws.{jobs-of-network, inside-network}
-use Rattle.network.specs.Times.{ownRelease, ownDue, ownRunning, releaseWeight, AdjustedReleases, AdjustedDeadlines, adjustedRelease, adjustedDeadline}
+use Rattle.network.specs.Times.{ownRelease, ownDue, ownRunning, Weight, ReleasesBy, releaseBy, AdjustedReleases, AdjustedDeadlines, adjustedRelease}
+use Rattle.network.specs.Times.{adjustedDeadline}
 use Rattle.network.specs.TimesLaws.{ahead, ahead-low, adjusted-release-low, adjusted-deadline-is}
 
 -- no way of at least one link leads from a job of the cycle to itself
@@ -45,7 +46,7 @@ sub-signed a h = go (lt-or-le 12000 a)
 
 -- ==== On a sound set whose links make no cycle, the adjusted releases and deadlines that are computed satisfy rules R8.2 and R8.3 for every job
 -- of the cycle (`adjusted-releases`, `adjusted-deadlines`); whatever else satisfies them is the same for every such job (`-only`); and each of them
--- is a signed 32-bit number, the releases none below 0 (`-fit`).
+-- is a signed 32-bit number, the releases none below 0 (`-fit`). Releases over any weight exist and are the only ones (`releases-by`).
 module _ (s : Set) (e : sound s ≡ true) (free : NoCycle (s .tasks) (s .patterns)) where
   abbrev f : Sound s
   f = sound-facts s e
@@ -53,16 +54,23 @@ module _ (s : Set) (e : sound s ≡ true) (free : NoCycle (s .tasks) (s .pattern
   abbrev g : Graph
   g = network (s .tasks) (s .patterns)
 
+  pub releases-by : (w : Weight) → ReleasesBy w (s .tasks) (s .patterns) (releaseBy w (s .tasks) (s .patterns))
+  unfolding releaseBy
+  releases-by w =
+      record { solves = rounds-solve g (ownRelease (s .tasks)) (w (s .tasks)) (inside-network s f) (no-cycle-free (s .tasks) (s .patterns) free) }
+
+  pub releases-by-only : (w : Weight) (a b : ℕ → ℕ) → ReleasesBy w (s .tasks) (s .patterns) a → ReleasesBy w (s .tasks) (s .patterns) b → (x : ℕ)
+      → x < jobs (s .tasks) → a x ≡ b x
+  releases-by-only w a b p q x l =
+      only g (ownRelease (s .tasks)) (w (s .tasks)) (inside-network s f) (no-cycle-free (s .tasks) (s .patterns) free) a b (p .solves) (q .solves) x
+      (rw jobs-of-network l)
+
   pub adjusted-releases : AdjustedReleases (s .tasks) (s .patterns) (adjustedRelease (s .tasks) (s .patterns))
-  unfolding adjustedRelease
-  adjusted-releases =
-      record { solves = rounds-solve g (ownRelease (s .tasks)) (releaseWeight (s .tasks)) (inside-network s f) (no-cycle-free (s .tasks) (s .patterns) free) }
+  adjusted-releases = releases-by ownRunning
 
   pub adjusted-releases-only : (a b : ℕ → ℕ) → AdjustedReleases (s .tasks) (s .patterns) a → AdjustedReleases (s .tasks) (s .patterns) b → (x : ℕ)
       → x < jobs (s .tasks) → a x ≡ b x
-  adjusted-releases-only a b p q x l =
-      only g (ownRelease (s .tasks)) (releaseWeight (s .tasks)) (inside-network s f) (no-cycle-free (s .tasks) (s .patterns) free) a b (p .solves) (q .solves) x
-      (rw jobs-of-network l)
+  adjusted-releases-only = releases-by-only ownRunning
 
   pub adjusted-releases-fit : (x : ℕ) → x < jobs (s .tasks) → adjustedRelease (s .tasks) (s .patterns) x < 2 ^ 31
   adjusted-releases-fit x l = omega (arith, adjusted-release-low s f x l)

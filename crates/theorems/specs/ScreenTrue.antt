@@ -23,26 +23,30 @@ use Rattle.screen.specs.declared.Finding.{Finding}
 use Rattle.screen.specs.declared.Finding.the-variants as finding
 use Rattle.network.specs.Network.{network}
 use Rattle.network.specs.NetworkLaws.{inside-network}
-use Rattle.network.specs.Times.{ownRunning, AdjustedReleases, AdjustedDeadlines, adjustedRelease, adjustedDeadline}
+use Rattle.network.specs.Times.{ownRunning, Weight, ReleasesBy, releaseBy, AdjustedDeadlines, adjustedDeadline}
 use Rattle.screen.specs.Answers.{findingNumber}
-use Rattle.network.specs.Causes.{onCycle, load, room, tight}
-use Rattle.screen.specs.Findings.{screenRules, findingOf}
+use Rattle.network.specs.Causes.{onCycle, load, room, tightBy, tight}
+use Rattle.screen.specs.Findings.{screenRules, findingBy, findingOf}
 use Rattle.network.specs.Causes.{lowestCycle, lowestTight}
 use Rattle.screen.proofs.Order.{not-sound, on-cycle, overloaded, too-tight, nothing-found}
-use Rattle.theorems.specs.ScreenTimes.{NoCycle, adjusted-releases, adjusted-releases-only, adjusted-deadlines, adjusted-deadlines-only}
+use Rattle.theorems.specs.ScreenTimes.{NoCycle, releases-by, releases-by-only, adjusted-deadlines, adjusted-deadlines-only}
 
 -- ---- what each finding says
 -- job x lies on a cycle: a way of at least one link leads from it to itself
 abbrev pub OnCycle : Tasks → Patterns → ℕ → Type 0
 OnCycle u v x = Way (network u v) x x
 
--- a job's adjusted release and C are over its adjusted deadline, for releases and deadlines that satisfy rules R8.2 and R8.3
-pub record Tight (u : Tasks) (v : Patterns) (x : ℕ) : Type 0 where
+-- a job's adjusted release and C are over its adjusted deadline, for releases over a weight and deadlines that satisfy rule R8.2
+pub record TightBy (w : Weight) (u : Tasks) (v : Patterns) (x : ℕ) : Type 0 where
   pub release : ℕ → ℕ
   pub deadline : ℕ → ℤ
-  pub releases : AdjustedReleases u v release
+  pub releases : ReleasesBy w u v release
   pub deadlines : AdjustedDeadlines u v deadline
   pub over : ltZ (deadline x) (pos (release x + ownRunning u x)) ≡ true
+
+-- for releases that satisfy rule R8.3
+abbrev pub Tight : Tasks → Patterns → ℕ → Type 0
+Tight u v x = TightBy ownRunning u v x
 
 -- Rule R7.6: job k of task i is a job of the cycle with the property, and none before it has it
 pub record LowestJob (u : Tasks) (P : ℕ → Type 0) (i k : ℕ) : Type 0 where
@@ -120,26 +124,26 @@ module _ (s : Set) (e : sound s ≡ true) where
   unfolding onCycle
   cycle-iff x l = loops-iff (network u v) x (inside-network s (sound-facts s e))
 
-  pub tight-iff : NoCycle (s .tasks) (s .patterns) → (x : ℕ) → x < jobs (s .tasks)
-      → (tight (s .tasks) (s .patterns) x ≡ true) ↔ Tight (s .tasks) (s .patterns) x
-  unfolding tight
-  tight-iff free x l = (there, back)
+  pub tight-iff : (w : Weight) → NoCycle (s .tasks) (s .patterns) → (x : ℕ) → x < jobs (s .tasks)
+      → (tightBy w (s .tasks) (s .patterns) x ≡ true) ↔ TightBy w (s .tasks) (s .patterns) x
+  unfolding tightBy
+  tight-iff w free x l = (there, back)
     where
-      there : ltZ (adjustedDeadline u v x) (pos (adjustedRelease u v x + ownRunning u x)) ≡ true → Tight u v x
+      there : ltZ (adjustedDeadline u v x) (pos (releaseBy w u v x + ownRunning u x)) ≡ true → TightBy w u v x
       there h =
           record {
-            release = adjustedRelease u v;
+            release = releaseBy w u v;
             deadline = adjustedDeadline u v;
-            releases = adjusted-releases s e free;
+            releases = releases-by s e free w;
             deadlines = adjusted-deadlines s e free;
             over = h;
           }
 
-      back : Tight u v x → ltZ (adjustedDeadline u v x) (pos (adjustedRelease u v x + ownRunning u x)) ≡ true
+      back : TightBy w u v x → ltZ (adjustedDeadline u v x) (pos (releaseBy w u v x + ownRunning u x)) ≡ true
       back t =
           ap₂ (λ (d : ℤ) (r : ℕ). ltZ d (pos (r + ownRunning u x)))
           (adjusted-deadlines-only s e free (adjustedDeadline u v) (t .deadline) (adjusted-deadlines s e free) (t .deadlines) x l)
-          (adjusted-releases-only s e free (adjustedRelease u v) (t .release) (adjusted-releases s e free) (t .releases) x l)
+          (releases-by-only s e free w (releaseBy w u v) (t .release) (releases-by s e free w) (t .releases) x l)
           ∙ t .over
 
   free-lowest : NoCycle (s .tasks) (s .patterns) → jobs (s .tasks) ≤ lowestCycle s
@@ -149,7 +153,7 @@ module _ (s : Set) (e : sound s ≡ true) where
   only-nothing : FoundNothing s → finding.Nothing ≡ findingOf s
   only-nothing w =
       sym (nothing-found s e (free-lowest (w .no-cycle)) (w .no-overload)
-      (none-least (tight u v) (Tight u v) (jobs u) (tight-iff (w .no-cycle)) (w .none-tight)))
+      (none-least (tight u v) (Tight u v) (jobs u) (tight-iff ownRunning (w .no-cycle)) (w .none-tight)))
 
   only-cycle : (i k : ℕ) → FoundCycle s i k → finding.Cycle i k ≡ findingOf s
   only-cycle i k w =
@@ -165,7 +169,7 @@ module _ (s : Set) (e : sound s ≡ true) where
   only-tight : (i k : ℕ) → FoundTight s i k → finding.TooTight i k ≡ findingOf s
   only-tight i k w =
       let m = job-to u (Tight u v) i k (w .lowest) in
-      let x : numberOfJob u i k ≡ lowestTight s = lowest-is (tight u v) (Tight u v) (jobs u) (tight-iff (w .no-cycle)) (numberOfJob u i k) m in
+      let x : numberOfJob u i k ≡ lowestTight s = lowest-is (tight u v) (Tight u v) (jobs u) (tight-iff ownRunning (w .no-cycle)) (numberOfJob u i k) m in
       same-job u (Tight u v) finding.TooTight i k (lowestTight s) (w .lowest) x
       ∙ sym (too-tight s e (free-lowest (w .no-cycle)) (w .no-overload) (omega (arith, m .low)))
 
@@ -189,7 +193,7 @@ FoundBy s (finding.Overload a b) = (room s < load (s .tasks)) × (a ≡ load (s 
 FoundBy s (finding.TooTight i k) =
     (lowestTight s < jobs (s .tasks)) × (i ≡ taskOfJob (s .tasks) (lowestTight s)) × (k ≡ jobOfJob (s .tasks) (lowestTight s))
 
-told : (s : Set) → Each (Told (KeptBy (screenClaims s)) (FoundBy s) findingNumber) (screenRules s)
+told : (s : Set) → Each (Told (KeptBy (screenClaims s)) (FoundBy s) findingNumber) (screenRules ownRunning s)
 unfolding screenClaims KeptBy FoundBy screenRules
 told s =
     record { kept = (λ e. not-false (sound s) e, λ k. ap not k); breach = λ e. not-true (sound s) e; number = refl }
@@ -212,7 +216,7 @@ told s =
 
 -- every rule of the screen before a number is kept
 abbrev KeptBefore : Set → ℕ → Type 0
-KeptBefore s n = (m : ℕ) → earlier (numbersOf (screenRules s)) m n ≡ true → KeptBy (screenClaims s) m
+KeptBefore s n = (m : ℕ) → earlier (numbersOf (screenRules ownRunning s)) m n ≡ true → KeptBy (screenClaims s) m
 
 -- where the rules before a finding are kept and its own is broken as it says, the finding is true
 module _ (s : Set) where
@@ -228,7 +232,7 @@ module _ (s : Set) where
         is-sound = e;
         no-cycle = c;
         no-overload = k 14 refl;
-        none-tight = least-none (tight (s .tasks) (s .patterns)) (Tight (s .tasks) (s .patterns)) (jobs (s .tasks)) (tight-iff s e c) (k 15 refl);
+        none-tight = least-none (tight (s .tasks) (s .patterns)) (Tight (s .tasks) (s .patterns)) (jobs (s .tasks)) (tight-iff s e ownRunning c) (k 15 refl);
       }
   meant finding.BadSet k w = record { unsound = w }
   meant (finding.Cycle i j) k w =
@@ -241,7 +245,7 @@ module _ (s : Set) where
   meant (finding.TooTight i j) k w =
       let e = k 10 refl in
       let c = free e (k 13 refl) in
-      let x = least-lowest (tight (s .tasks) (s .patterns)) (Tight (s .tasks) (s .patterns)) (jobs (s .tasks)) (tight-iff s e c) (w .0) in
+      let x = least-lowest (tight (s .tasks) (s .patterns)) (Tight (s .tasks) (s .patterns)) (jobs (s .tasks)) (tight-iff s e ownRunning c) (w .0) in
       record {
         is-sound = e;
         no-cycle = c;
@@ -253,9 +257,9 @@ module _ (s : Set) where
 -- of C·H/T and m·H, where no job lies on one and the first is over the second; 15 with the lowest job whose adjusted release + C is over its adjusted
 -- deadline, where 13 and 14 do not hold; and nothing where none of them does. It follows from what is said of the first broken rule of any chain.
 pub finding-true : (s : Set) → Finds s (findingOf s)
-unfolding findingOf FoundBy
+unfolding findingBy FoundBy
 finding-true s =
-    let w = first-told finding.Nothing (KeptBy (screenClaims s)) (FoundBy s) findingNumber (screenRules s) (told s) tt in
+    let w = first-told finding.Nothing (KeptBy (screenClaims s)) (FoundBy s) findingNumber (screenRules ownRunning s) (told s) tt in
     meant s (findingOf s) (w .0) (w .1)
 
 -- ==== And it is the only finding of which this can be said: two that are allowed are equal.

@@ -31,12 +31,12 @@ use Rattle.judge.specs.Answers.{numberOf}
 use Rattle.judge.specs.Rules.{twin, mated, clashes, strays, strayed, miscounts, miscounted}
 use Rattle.judge.specs.Judgement.{wrongAt, planRules, rules, verdictOf}
 use Rattle.network.specs.Network.{cycleLinks, linkStarts, linkEnds, network}
-use Rattle.network.specs.Times.{ownRelease, ownDue, ownRunning, releaseWeight, adjustedRelease, adjustedDeadline}
-use Rattle.network.specs.Causes.{onCycle, load, room, tight}
+use Rattle.network.specs.Times.{ownRelease, ownDue, ownRunning, releaseBy, adjustedDeadline}
+use Rattle.network.specs.Causes.{onCycle, load, room, tightBy}
 use Rattle.screen.specs.declared.Finding.{Finding}
 use Rattle.screen.specs.declared.Finding.the-variants as finding
 use Rattle.screen.specs.Answers.{findingNumber}
-use Rattle.screen.specs.Findings.{screenRules, findingOf}
+use Rattle.screen.specs.Findings.{screenRules, findingBy, findingOf}
 use Rattle.dispatcher.specs.declared.State.{State}
 use Rattle.dispatcher.specs.declared.Answer.the-variants as answer
 use Rattle.dispatcher.specs.declared.Stepped.{Stepped}
@@ -112,9 +112,9 @@ pub right-screen : RightScreen findingOf
 right-screen = record { finds = finding-true }
 
 screened : (findingOf small ≡ finding.Nothing) × (findingOf crowded ≡ finding.Overload 2 1)
-unfolding findingOf screenRules firstOf least all total table join lcm lcmOf reach loops holds cycle jobsOf jobsBefore jobs cycleFits release due
+unfolding findingBy screenRules firstOf least all total table join lcm lcmOf reach loops holds cycle jobsOf jobsBefore jobs cycleFits release due
     taskOfJob jobOfJob longest.most longest.entry longest.rounds soonest.fewest soonest.due soonest.soonest links attributesFit taskFits openingFits sound
-    cycleLinks linkStarts linkEnds network ownRelease ownDue ownRunning releaseWeight adjustedRelease adjustedDeadline onCycle load room tight
+    cycleLinks linkStarts linkEnds network ownRelease ownDue ownRunning releaseBy adjustedDeadline onCycle load room tightBy
 screened = (refl, refl)
 
 module _ (screen : Set → Finding) (right : RightScreen screen) where

@@ -1,5 +1,5 @@
 -- The first rule of a chain that is broken.
-use mathlib.Core.Path.{_≡_, refl, sym, _∙_}
+use mathlib.Core.Path.{_≡_, refl, sym, ap, _∙_}
 use mathlib.Core.Bool.{Bool, true, false, not, _&&_, _||_}
 use mathlib.Core.List.{List, [], _∷_, map}
 use mathlib.Core.Logic.{_⊎_, inl, inr, _↔_}
@@ -27,6 +27,22 @@ firstOf {A} (r ∷ rs) d = let x : A = firstOf rs d in pick (r .broken) (r .answ
 unfoldable pub from : {A : Type 0} → ℕ → List (Rule A) → List (Rule A)
 from n [] = []
 from n (r ∷ rs) = pick (eqb (r .number) n) (r ∷ rs) (from n rs)
+
+-- Two chains tell the same, of which `say` tells a part or all, where each rule is broken in both or in none: its answer counts only where it is, and what
+-- stands behind it where it is not.
+pub first-said : {A B : Type 0} (say : A → B) (r x : Rule A) (rs xs : List (Rule A)) (d : A) → r .broken ≡ x .broken
+    → (r .broken ≡ true → say (r .answer) ≡ say (x .answer)) → (r .broken ≡ false → say (firstOf rs d) ≡ say (firstOf xs d))
+    → say (firstOf (r ∷ rs) d) ≡ say (firstOf (x ∷ xs) d)
+unfolding firstOf
+first-said {A} say r x rs xs d e f g = go (r .broken) refl
+  where
+    go : (b : Bool) → r .broken ≡ b → say (pick b (r .answer) (firstOf rs d)) ≡ say (pick (x .broken) (x .answer) (firstOf xs d))
+    go true h = f h ∙ ap (λ (c : Bool). say (pick c (x .answer) (firstOf xs d))) (sym h ∙ e)
+    go false h = g h ∙ ap (λ (c : Bool). say (pick c (x .answer) (firstOf xs d))) (sym h ∙ e)
+
+pub first-same : {A : Type 0} (r x : Rule A) (rs xs : List (Rule A)) (d : A) → r .broken ≡ x .broken → (r .broken ≡ true → r .answer ≡ x .answer)
+    → (r .broken ≡ false → firstOf rs d ≡ firstOf xs d) → firstOf (r ∷ rs) d ≡ firstOf (x ∷ xs) d
+first-same {A} r x rs xs d e f g = first-said (λ (a : A). a) r x rs xs d e f g
 
 -- ---- the first broken rule by its rank
 -- whether the chain ends at rank k, by a rule that is broken or since there is none

@@ -1,4 +1,8 @@
-use Rattle.graph.specs.JobRows.{delays, not-delays}
+use denote.Ref.{now}
+use mathlib.Core.Path.{refl}
+use Rattle.graph.specs.JobRows.{raises, not-raises}
+use Rattle.graph.specs.Column.{column-at}
+use native.Mathlib.Omega.{arith}
 use borrow.Author.Needs.{needs}
 use Rattle.network.proofs.settle.delay.Statement.{statement}
 use Rattle.network.proofs.settle.delay.Tie as tie
@@ -19,45 +23,49 @@ mul-q c = search needs
 slice-copy-out-q : tie.Need-slice-copy-out-q
 slice-copy-out-q c = search needs
 
--- src/settle.rt:27:8
+-- src/settle.rt:27:20
+array-read-capped : tie.Need-array-read-capped
+array-read-capped c = search needs
+
+-- src/settle.rt:27:26
+array-read-capped-2 : tie.Need-array-read-capped-2
+array-read-capped-2 c = search needs
+
+-- src/settle.rt:27:9
+capped-requires : tie.Need-capped-requires
+capped-requires c κs = (omega (arith, column-at 1 (now (c .before .before .args .jobs)) (c .before .before .args .a), c .before .before .pre .early), omega (arith, column-at 0 (now (c .before .before .args .jobs)) (c .before .before .args .a), c .before .before .pre .light-from))
+
+-- src/settle.rt:28:8
 array-read-if1 : tie.Need-array-read-if1
 array-read-if1 c = search needs
 
--- src/settle.rt:27:15
-array-read-if1-2 : tie.Need-array-read-if1-2
-array-read-if1-2 c = search needs
-
--- src/settle.rt:28:20
-array-read-t19 : tie.Need-array-read-t19
-array-read-t19 c = search needs
-
--- src/settle.rt:28:26
+-- src/settle.rt:29:20
 array-read-t22 : tie.Need-array-read-t22
 array-read-t22 c = search needs
 
--- src/settle.rt:28:32
+-- src/settle.rt:29:26
 array-read-t25 : tie.Need-array-read-t25
 array-read-t25 c = search needs
 
--- src/settle.rt:28:9
+-- src/settle.rt:29:9
 mul-t27 : tie.Need-mul-t27
 mul-t27 c = search needs
 
--- src/settle.rt:28:9
+-- src/settle.rt:29:9
 slice-set-from-jobs : tie.Need-slice-set-from-jobs
 slice-set-from-jobs c = search needs
 
--- src/settle.rt:29:9
+-- src/settle.rt:30:9
 same-length : tie.Need-same-length
 same-length c = search needs
 
--- src/settle.rt:29:9
+-- src/settle.rt:30:9
 returns : tie.Need-returns
-returns c = delays _ _ _ (c .before .before .before .pre) (c .if1 .taken)
+returns c = raises 1 2 _ _ _ (c .before .capped .ensures) _ refl refl refl (c .before .before .before .before .pre .to) (c .if1 .taken)
 
 -- src/settle.rt:21:1
 returns-2 : tie.Need-returns-2
-returns-2 c = not-delays _ _ _ (c .before .before .before .pre) (c .if1 .left)
+returns-2 c = not-raises 1 2 _ _ _ (c .before .capped .ensures) (c .if1 .left)
 
 pub delay-spec : {M : Type 1} → statement M
 delay-spec =
@@ -67,9 +75,10 @@ delay-spec =
     slice-copy-out-p
     mul-q
     slice-copy-out-q
+    array-read-capped
+    array-read-capped-2
+    capped-requires
     array-read-if1
-    array-read-if1-2
-    array-read-t19
     array-read-t22
     array-read-t25
     mul-t27

@@ -1,5 +1,6 @@
 use denote.Ref.{now}
-use Rattle.graph.specs.JobRows.{hastens, not-hastens}
+use mathlib.Core.Path.{refl}
+use Rattle.graph.specs.JobRows.{raises, not-raises}
 use Rattle.graph.specs.Column.{column-at}
 use native.Mathlib.Omega.{arith}
 use borrow.Author.Needs.{needs}
@@ -32,7 +33,7 @@ array-read-capped-2 c = search needs
 
 -- src/settle.rt:41:9
 capped-requires : tie.Need-capped-requires
-capped-requires c κs = (omega (arith, column-at 2 (now (c .before .before .args .jobs)) (c .before .before .args .b), c .before .before .pre .late), omega (arith, column-at 0 (now (c .before .before .args .jobs)) (c .before .before .args .b), c .before .before .pre .light))
+capped-requires c κs = (omega (arith, column-at 2 (now (c .before .before .args .jobs)) (c .before .before .args .b), c .before .before .pre .late), omega (arith, column-at 0 (now (c .before .before .args .jobs)) (c .before .before .args .b), c .before .before .pre .light-to))
 
 -- src/settle.rt:42:8
 array-read-if1 : tie.Need-array-read-if1
@@ -60,11 +61,11 @@ same-length c = search needs
 
 -- src/settle.rt:44:9
 returns : tie.Need-returns
-returns c = hastens _ _ _ (c .before .before .before .before .pre) (c .before .capped .ensures) (c .if1 .taken)
+returns c = raises 2 1 _ _ _ (c .before .capped .ensures) _ refl refl refl (c .before .before .before .before .pre .from) (c .if1 .taken)
 
 -- src/settle.rt:35:1
 returns-2 : tie.Need-returns-2
-returns-2 c = not-hastens _ _ _ (c .before .before .before .before .pre) (c .before .capped .ensures) (c .if1 .left)
+returns-2 c = not-raises 2 1 _ _ _ (c .before .capped .ensures) (c .if1 .left)
 
 pub hasten-spec : {M : Type 1} → statement M
 hasten-spec =
