@@ -33,7 +33,7 @@ array-read-capped-2 c = search needs
 
 -- src/settle.rt:27:9
 capped-requires : tie.Need-capped-requires
-capped-requires c κs = (omega (arith, column-at 1 (now (c .before .before .args .jobs)) (c .before .before .args .a), c .before .before .pre .early), omega (arith, column-at 0 (now (c .before .before .args .jobs)) (c .before .before .args .a), c .before .before .pre .light-from))
+capped-requires c κs = (omega (arith, column-at 1 (now (c .before .before .args .jobs)) (c .before .before .args .a), c .before .before .pre .early), omega (arith, column-at 0 (now (c .before .before .args .jobs)) (c .before .before .args .a), column-at 0 (now (c .before .before .args .jobs)) (c .before .before .args .b), c .before .before .pre .light-from, c .before .before .pre .light-to))
 
 -- src/settle.rt:28:8
 array-read-if1 : tie.Need-array-read-if1
