@@ -275,8 +275,8 @@ setCases =
     ∷ (ask.screening (paired 0 1 1 0), says (15 ∷ 0 ∷ 1 ∷ []))
     -- A job whose successor leaves it too little room makes the successor late too, and the lower of the two is named.
     ∷ (ask.screening (lentSet 1 2 ((10, 3, 0, 6) ∷ (10, 4, 0, 5) ∷ []) ((1, 0, 1) ∷ []) ((0, 0) ∷ [])), says (15 ∷ 0 ∷ 0 ∷ []))
-    -- Into the next round: within the cycle the first job has two ticks for its three, which makes job 2 of task 0 late; where the link leaves the cycle nothing
-    -- is found.
+    -- Into the next round: within the cycle the first job has two ticks for its three, and so job 2 of task 0 is late; where the link leaves the cycle
+    -- nothing is found.
     ∷ (ask.screening (intoNext 3 ((8, 1, 0, 8) ∷ [])), says (15 ∷ 0 ∷ 2 ∷ []))
     ∷ (ask.screening (intoNext 3 []), says (0 ∷ []))
     ∷ []

@@ -1,14 +1,13 @@
 -- Rounds for both times at once, over a row of jobs. A job's record is its running time, its release, and how far before a fixed tick it is due.
-use mathlib.Core.Path.{_≡_, refl, sym, ap, _∙_}
+use mathlib.Core.Path.{_≡_, refl, sym, _∙_}
 use mathlib.Core.Bool.{Bool, true, false}
-use mathlib.Core.List.{List, [], _∷_}
+use mathlib.Core.List.{List, []}
 use Prim.Native.Nat.{ℕ, _+_, _≤_, _<_, min}
 use native.Mathlib.Omega.{arith}
 use lib.ListN.{length, getD, set, length-set}
-use Rattle.vocabulary.specs.Test.{clash}
 use Rattle.graph.specs.Column.{column, column-long, column-at, column-set, column-kept}
-use Rattle.graph.specs.Pass.{limit, at, Lined, Raised, raised, not-raised, PassingLinks, pass-from, pass-on, pass-end, Settling, settle-from}
-use Rattle.graph.specs.Pass.{still-lined, settle-on, settle-still, settle-end}
+use Rattle.graph.specs.Pass.{limit, at, Lined, Raised, raised, not-raised, PassingLinks, pass-from, pass-on, Settling, settle-from}
+use Rattle.graph.specs.Pass.{settle-on, settle-still}
 use Rattle.graph.specs.Cycle.{Between, between-back}
 
 abbrev pub runs : List (List ℕ) → List ℕ
@@ -35,7 +34,8 @@ pub record Ready (links rows : List (List ℕ)) : Type 0 where
 
 module _ (links rows : List (List ℕ)) (p : Ready links rows) where
   -- either time, in column c, along links from f to t
-  lined : (c : ℕ) (f t : List ℕ) → Between f t (length rows) → ((x : ℕ) → x < length rows → at (column c rows) x ≤ limit) → Lined f t (runs rows) (column c rows)
+  lined : (c : ℕ) (f t : List ℕ) → Between f t (length rows) → ((x : ℕ) → x < length rows → at (column c rows) x ≤ limit)
+      → Lined f t (runs rows) (column c rows)
   lined c f t b low =
       let e : length (column c rows) ≡ length rows = column-long c rows in
       record {

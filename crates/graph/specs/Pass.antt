@@ -1,5 +1,5 @@
 -- Rounds in place over a list of links, and what they leave.
-use mathlib.Core.Path.{_≡_, refl, sym, ap, _∙_}
+use mathlib.Core.Path.{_≡_, refl, ap, _∙_}
 use mathlib.Core.Bool.{Bool, true, false}
 use mathlib.Core.List.{List}
 use mathlib.Core.Logic.{_⊎_, inl, inr, ⊎-elim}
@@ -91,18 +91,6 @@ pass-from f t w v l =
       still = λ p. refl;
     }
 
--- what `raise` asks
-pub pass-asks : (f t w v u : List ℕ) (k : ℕ) (r : Bool) → Lined f t w v → PassingLinks f t w v u k r → k < length f
-    → (at f k < length u) × (at t k < length u) × (length w ≡ length u) × (at u (at f k) ≤ limit) × (at w (at f k) ≤ limit)
-pass-asks f t w v u k r l p lk = (
-  omega (arith, l .starts k lk, p .long),
-  omega (arith, l .ends k lk, p .long),
-  l .weights ∙ sym (p .long),
-  p .low (at f k)
-      (l .starts k lk),
-  l .light (at f k) (l .starts k lk),
-)
-
 -- a turn: r′ is whether anything has changed by now
 pub pass-on : (f t w v u u′ : List ℕ) (k : ℕ) (r c r′ : Bool) → Lined f t w v → PassingLinks f t w v u k r → k < length f
     → Raised w (at f k) (at t k) u u′ c → (r′ ≡ false → (r ≡ false) × (c ≡ false)) → PassingLinks f t w v u′ (k + 1) r′
@@ -118,10 +106,6 @@ pass-on f t w v u u′ k r c r′ l p lk q h =
       under = λ s hs hv x lx. q .under s (p .under s hs hv (at f k) (l .starts k lk)) (hs k lk) x (p .under s hs hv x lx);
       still = λ e. let z = h e in q .still (z .1) ∙ p .still (z .0);
     }
-
-pub pass-end : (f t w v u : List ℕ) (k : ℕ) (r : Bool) → PassingLinks f t w v u k r → length f ≤ k → Passed f t w v u r
-pass-end f t w v u k r p l =
-    record { within = omega arith; long = p .long; low = p .low; grow = p .grow; got = λ j h. p .got j (omega arith); under = p .under; still = p .still }
 
 -- ---- rounds
 -- the numbers stand for round s: at least what s rounds give (up to the limit), at most any family that nothing breaks
@@ -139,18 +123,6 @@ pub settle-from : (f t w v : List ℕ) → Lined f t w v → Settling f t w v v 
 unfolding rounds
 settle-from f t w v l =
     record { long = refl; low = l .low; grow = λ x. omega arith; reached = λ x h. omega arith; under = λ z o. o .own }
-
--- what a pass reads is lined still
-pub still-lined : (f t w v u : List ℕ) (s : ℕ) → Lined f t w v → Settling f t w v u s → Lined f t w u
-still-lined f t w v u s l p =
-    record {
-      long = l .long;
-      weights = l .weights ∙ sym (p .long);
-      starts = λ k h. omega (arith, l .starts k h, p .long);
-      ends = λ k h. omega (arith, l .ends k h, p .long);
-      light = λ x h. l .light x (omega (arith, p .long));
-      low = λ x h. p .low x (omega (arith, p .long));
-    }
 
 -- one round of the equations is passed by a pass
 step : (f t w v u u′ : List ℕ) (y : ℕ → ℕ) → Lined f t w v → ((x : ℕ) → x < length v → min (y x) limit ≤ at u x) → ((x : ℕ) → at v x ≤ at u′ x)
@@ -193,9 +165,6 @@ settle-still f t w v u u′ s r l p q hf = let e = q .still hf in rw e
     all : (k x : ℕ) → x < length v → min (rounds (graphOf f t (length v)) (at v) (at w) k x) limit ≤ at u x
     all zero x h = omega (arith, p .grow x)
     all (suc k) x h = step f t w v u u (rounds (graphOf f t (length v)) (at v) (at w) k) l (all k) (p .grow) got x h
-
-pub settle-end : (f t w v u : List ℕ) (k : ℕ) → Settling f t w v u k → length u ≤ k → k ≤ length v → Settled f t w v u
-settle-end f t w v u k p l m = let e : k ≡ length v = omega (arith, p .long) in rw e at p
 
 -- ==== without a cycle the numbers are the solution
 pub settled-free : (f t w v u : List ℕ) (B W : ℕ) → Lined f t w v → Settled f t w v u → Free (graphOf f t (length v))

@@ -1,5 +1,5 @@
 -- The rule for adjusted releases as it was before request 105, and that the screen's number is the same under both. Nothing else uses the old rule.
-use mathlib.Core.Path.{_≡_, refl, sym, ap, _∙_}
+use mathlib.Core.Path.{_≡_, refl, sym, _∙_}
 use mathlib.Core.Bool.{Bool, true, false, not}
 use mathlib.Core.List.{List, [], _∷_}
 use mathlib.Core.Logic.{_↔_}
