@@ -8,7 +8,7 @@ use native.Mathlib.Omega.{arith}
 use borrow.Author.Tests.{not-false, ltb-false}
 use Rattle.vocabulary.specs.Test.{pick}
 use Rattle.vocabulary.specs.First.{firstOf, first-said}
-use Rattle.vocabulary.specs.Least.{least, all}
+use Rattle.vocabulary.specs.Least.{least, all, some, some-yes, some-at}
 use Rattle.vocabulary.specs.Total.{total}
 use Rattle.vocabulary.specs.Table.{table, join, gather}
 use Rattle.vocabulary.specs.Multiple.{lcm, lcmOf}
@@ -32,7 +32,7 @@ use Rattle.screen.specs.Answers.{findingNumber}
 use Rattle.screen.specs.Findings.{screenRules, findingBy, findingOf}
 use Rattle.screen.specs.Heads.{screenedOf}
 use Rattle.theorems.specs.ScreenTimes.{NoCycle, releases-by, releases-by-only}
-use Rattle.theorems.specs.ScreenTrue.{free}
+use Rattle.theorems.specs.ScreenTrue.{TightBy, tight-iff, free}
 use Rattle.theorems.specs.LateJobs.{Light, same-late, no-later}
 
 -- ---- the old rule
@@ -64,6 +64,32 @@ old-light u = record { each = λ x l. omega arith }
 new-light : (u : Tasks) → Light ownRunning u
 new-light u = record { each = λ x l. omega arith }
 
+-- some job of the cycle is too tight, for whatever releases over the weight and deadlines satisfy the rules
+pub record SomeTight (w : Weight) (s : Set) : Type 0 where
+  pub job : ℕ
+  pub low : job < jobs (s .tasks)
+  pub tight : TightBy w (s .tasks) (s .patterns) job
+
+module _ (s : Set) (e : sound s ≡ true) (c : NoCycle (s .tasks) (s .patterns)) where
+  abbrev someTight : Weight → Bool
+  someTight w = some (tightBy w (s .tasks) (s .patterns)) (jobs (s .tasks))
+
+  test-of : (w : Weight) → SomeTight w s → someTight w ≡ true
+  test-of w t = some-yes (tightBy w (s .tasks) (s .patterns)) (jobs (s .tasks)) (t .job) (t .low) (tight-iff s e w c (t .job) (t .low) .1 (t .tight))
+
+  of-test : (w : Weight) → someTight w ≡ true → SomeTight w s
+  of-test w h =
+      let a = some-at (tightBy w (s .tasks) (s .patterns)) (jobs (s .tasks)) h in
+      let x : ℕ = lowestTightBy w s in
+      record { job = x; low = a .0; tight = tight-iff s e w c x (a .0) .0 (a .1) }
+
+  same-test : someTight ownRunning ≡ someTight oldWeight
+  same-test = same-late s e c ownRunning oldWeight (new-light (s .tasks)) (old-light (s .tasks))
+
+  -- ==== On a sound set without a cycle of links some job's adjusted release + C is over its adjusted deadline exactly where some job's was by the old rule.
+  pub some-tight-iff : SomeTight ownRunning s ↔ SomeTight oldWeight s
+  some-tight-iff = (λ t. of-test oldWeight (sym same-test ∙ test-of ownRunning t), λ t. of-test ownRunning (same-test ∙ test-of oldWeight t))
+
 -- ==== For every set, sound or not, the screen's number is the number under the old rule.
 pub same-findings : (s : Set) → findingNumber (findingOf s) ≡ findingNumber (oldFinding s)
 unfolding findingBy screenRules
@@ -76,7 +102,7 @@ same-findings s =
     let c = free s e (ltb-false (lowestCycle s) (jobs (s .tasks)) k₁₃) in
     first-said findingNumber _ _ _ _ _ refl (λ b. refl)
     (λ k₁₄.
-    first-said findingNumber _ _ _ _ _ (same-late s e c ownRunning oldWeight (new-light (s .tasks)) (old-light (s .tasks))) (λ b. refl) (λ k₁₅. refl))))
+    first-said findingNumber _ _ _ _ _ (same-test s e c) (λ b. refl) (λ k₁₅. refl))))
 
 -- ==== So it is 15 for exactly the same sets.
 pub same-tight-sets : (s : Set) → (findingNumber (findingOf s) ≡ 15) ↔ (findingNumber (oldFinding s) ≡ 15)
