@@ -31,7 +31,7 @@ cat <<PAGE
 
 ## The screen on links that are hard on it
 
-Long chains of jobs in the worst order (\`bench/slow.c\`). A set without a cycle costs its links, times the longest chain at worst. Where 64 rounds do not show
+Long chains of jobs (\`bench/slow.c\`). A set without a cycle costs its links, times the longest chain at worst. Where 64 rounds do not show
 that there is no cycle, job after job is searched, each search at the cost of its jobs and links at most.
 
 PAGE

@@ -1,5 +1,5 @@
-/* Times flute_screen on the largest sets whose links are hard on it: long chains of jobs that stand in the worst order, alone, into a cycle, out of one, and
-   between two. Prints a table: what was answered, and the processor's milliseconds of the fastest of three calls, of the archive and of plain C. */
+/* Times flute_screen on the largest sets whose links are hard on it: long chains of jobs, down the tasks, up them, and to and fro between them, alone, into a
+   cycle, out of one, and between two. Prints a table: what was answered, and the processor's milliseconds of the fastest of three calls, of the archive and of plain C. */
 #include "../include/flute.h"
 #include "plain.h"
 #include <stdio.h>
@@ -129,19 +129,35 @@ static void measure(const char *what)
     printf("| %s | %u | %u | %u %u %u | %.2f | %.2f |\n", what, jobs, links, answer, flute_screen_evidence(bytes, length, 0), flute_screen_evidence(bytes, length, 1), best, plain);
 }
 
-/* The set with its tasks in the opposite order, and so its links: what is a good order for releases is a bad one for deadlines. */
+/* The set with its tasks in another order, and so its links: task i is the one at place to[i]. */
+static void reorder(const uint32_t *to)
+{
+    uint32_t i, period[PLACES];
+    memcpy(period, set.period, sizeof period);
+    for (i = 0; i < set.tasks; i++)
+        set.period[to[i]] = period[i];
+    for (i = 0; i < set.pairs; i++) {
+        set.pair[i].from = to[set.pair[i].from];
+        set.pair[i].to = to[set.pair[i].to];
+    }
+}
+
+/* In the opposite order: what is a good order for releases is a bad one for deadlines. */
 static void turn(void)
 {
-    uint32_t i, n = set.tasks;
-    for (i = 0; i < n / 2; i++) {
-        uint32_t t = set.period[i];
-        set.period[i] = set.period[n - 1 - i];
-        set.period[n - 1 - i] = t;
-    }
-    for (i = 0; i < set.pairs; i++) {
-        set.pair[i].from = n - 1 - set.pair[i].from;
-        set.pair[i].to = n - 1 - set.pair[i].to;
-    }
+    uint32_t i, to[PLACES];
+    for (i = 0; i < set.tasks; i++)
+        to[i] = set.tasks - 1 - i;
+    reorder(to);
+}
+
+/* From both ends to the middle: a chain that goes down the tasks goes to and fro then, so that it is in order in no direction. */
+static void weave(void)
+{
+    uint32_t i, to[PLACES];
+    for (i = 0; i < set.tasks; i++)
+        to[i] = i % 2 ? set.tasks - 1 - i / 2 : i / 2;
+    reorder(to);
 }
 
 static void measure_both(const char *what)
@@ -228,7 +244,10 @@ int main(void)
 {
     printf("| links | jobs | links in a cycle | number and evidence | archive, ms | plain C, ms |\n|---|---:|---:|---|---:|---:|\n");
     chain(0, 0);
-    measure_both("a chain in bad order");
+    measure_both("a chain down the tasks");
+    chain(0, 0);
+    weave();
+    measure("a chain to and fro");
     chain(1, 0);
     measure_both("into a cycle");
     chain(0, 1);
@@ -236,7 +255,10 @@ int main(void)
     between();
     measure_both("between two");
     four(0, 0);
-    measure_both("four chains in bad order");
+    measure_both("four chains down the tasks");
+    four(0, 0);
+    weave();
+    measure("four chains to and fro");
     four(1, 0);
     measure_both("each into a cycle");
     four(0, 1);

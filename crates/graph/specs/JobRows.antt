@@ -6,7 +6,7 @@ use Prim.Native.Nat.{ℕ, _+_, _≤_, _<_, min}
 use native.Mathlib.Omega.{arith}
 use lib.ListN.{length, getD, set, length-set}
 use Rattle.graph.specs.Column.{column, column-long, column-at, column-set, column-kept}
-use Rattle.graph.specs.Pass.{limit, at, Lined, Raised, raised, not-raised, PassingLinks, pass-from, pass-on, Settling, settle-from}
+use Rattle.graph.specs.Pass.{limit, at, Lined, Raised, raised, not-raised, turn, turn-low, PassingLinks, pass-from, pass-on, Settling, settle-from}
 use Rattle.graph.specs.Pass.{settle-on, settle-still}
 use Rattle.graph.specs.Cycle.{Between, between-back}
 
@@ -131,41 +131,40 @@ hopped a b rows rows′ rows″ r₁ r₂ r p q h =
       ahead = reflag (runs rows) b a (aheads rows) (aheads rows″) r₂ r (λ e. h e .1) (rw (p .same, p .other) at (q .raised));
     }
 
--- ---- all links once, up to link k
-pub record Sweeps (links rows rows′ : List (List ℕ)) (k : ℕ) (r : Bool) : Type 0 where
+-- ---- all links once, from the first on or from the last back; k are passed
+pub record Sweeps (back : Bool) (links rows rows′ : List (List ℕ)) (k : ℕ) (r : Bool) : Type 0 where
   pub long : length rows′ ≡ length rows
   pub same : runs rows′ ≡ runs rows
-  pub release : PassingLinks (starts links) (ends links) (runs rows) (releases rows) (releases rows′) k r
-  pub ahead : PassingLinks (ends links) (starts links) (runs rows) (aheads rows) (aheads rows′) k r
+  pub release : PassingLinks back (starts links) (ends links) (runs rows) (releases rows) (releases rows′) k r
+  pub ahead : PassingLinks back (ends links) (starts links) (runs rows) (aheads rows) (aheads rows′) k r
 
-module _ (links rows : List (List ℕ)) (p : Ready links rows) where
-  pub sweep-from : Sweeps links rows rows 0 false
+module _ (back : Bool) (links rows : List (List ℕ)) (p : Ready links rows) where
+  pub sweep-from : Sweeps back links rows rows 0 false
   sweep-from =
       record {
         long = refl;
         same = refl;
-        release = pass-from (starts links) (ends links) (runs rows) (releases rows) (release-lined links rows p);
-        ahead = pass-from (ends links) (starts links) (runs rows) (aheads rows) (ahead-lined links rows p);
+        release = pass-from back (starts links) (ends links) (runs rows) (releases rows) (release-lined links rows p);
+        ahead = pass-from back (ends links) (starts links) (runs rows) (aheads rows) (ahead-lined links rows p);
       }
 
-  module _ (rows′ : List (List ℕ)) (k : ℕ) (r : Bool) (q : Sweeps links rows rows′ k r) (l : k < length links) {a b : ℕ}
-      (ea : a ≡ getD (getD links k []) 0 0) (eb : b ≡ getD (getD links k []) 1 0) where
-    start-is : at (starts links) k ≡ a
-    start-is = column-at 0 links k ∙ sym ea
+  -- link i is the next
+  module _ (rows′ : List (List ℕ)) (k : ℕ) (r : Bool) (q : Sweeps back links rows rows′ k r) (l : k < length links) {i a b : ℕ}
+      (ei : i ≡ turn back (length links) k) (ea : a ≡ getD (getD links i []) 0 0) (eb : b ≡ getD (getD links i []) 1 0) where
+    start-is : at (starts links) i ≡ a
+    start-is = column-at 0 links i ∙ sym ea
 
-    end-is : at (ends links) k ≡ b
-    end-is = column-at 1 links k ∙ sym eb
+    end-is : at (ends links) i ≡ b
+    end-is = column-at 1 links i ∙ sym eb
 
-    l₁ : k < length (starts links)
-    l₁ = omega (arith, column-long 0 links)
-
-    l₂ : k < length (ends links)
-    l₂ = omega (arith, column-long 1 links)
+    low : i < length links
+    low = omega (arith, ei, turn-low back (length links) k l)
 
     pub sweep-hop : Hop a b rows′
     sweep-hop =
-        let la : a < length rows = omega (arith, p .between .starts k l₁, start-is) in
-        let lb : b < length rows = omega (arith, p .between .ends k l₁, end-is) in
+        let li : i < length (starts links) = omega (arith, column-long 0 links, low) in
+        let la : a < length rows = omega (arith, p .between .starts i li, start-is) in
+        let lb : b < length rows = omega (arith, p .between .ends i li, end-is) in
         record {
           from = omega (arith, q .long);
           to = omega (arith, q .long);
@@ -176,24 +175,25 @@ module _ (links rows : List (List ℕ)) (p : Ready links rows) where
         }
 
     pub sweep-on : (rows″ : List (List ℕ)) (c r′ : Bool) → Hopped a b rows′ rows″ c → (r′ ≡ false → (r ≡ false) × (c ≡ false))
-        → Sweeps links rows rows″ (k + 1) r′
+        → Sweeps back links rows rows″ (k + 1) r′
     sweep-on rows″ c r′ h f =
-        let h₁ : Raised (runs rows) (at (starts links) k) (at (ends links) k) (releases rows′) (releases rows″) c =
+        let h₁ : Raised (runs rows) (at (starts links) i) (at (ends links) i) (releases rows′) (releases rows″) c =
         rw (start-is, end-is) (rw (q .same) at (h .release)) in
-        let h₂ : Raised (runs rows) (at (ends links) k) (at (starts links) k) (aheads rows′) (aheads rows″) c =
+        let h₂ : Raised (runs rows) (at (ends links) i) (at (starts links) i) (aheads rows′) (aheads rows″) c =
         rw (start-is, end-is) (rw (q .same) at (h .ahead)) in
         record {
           long = h .long ∙ q .long;
           same = h .same ∙ q .same;
           release =
-              pass-on (starts links) (ends links) (runs rows) (releases rows) (releases rows′) (releases rows″) k r c r′ (release-lined links rows p)
-              (q .release) l₁ h₁ f;
+              pass-on back (starts links) (ends links) (runs rows) (releases rows) (releases rows′) (releases rows″) k i r c r′
+              (release-lined links rows p) (q .release) (omega (arith, column-long 0 links)) (rw (column-long 0 links) ei) h₁ f;
           ahead =
-              pass-on (ends links) (starts links) (runs rows) (aheads rows) (aheads rows′) (aheads rows″) k r c r′ (ahead-lined links rows p)
-              (q .ahead) l₂ h₂ f;
+              pass-on back (ends links) (starts links) (runs rows) (aheads rows) (aheads rows′) (aheads rows″) k i r c r′
+              (ahead-lined links rows p) (q .ahead) (omega (arith, column-long 1 links)) (rw (column-long 1 links) ei) h₂ f;
         }
 
-  pub sweep-end : (rows′ : List (List ℕ)) (k : ℕ) (r : Bool) → Sweeps links rows rows′ k r → length links ≤ k → Sweeps links rows rows′ (length links) r
+  pub sweep-end : (rows′ : List (List ℕ)) (k : ℕ) (r : Bool) → Sweeps back links rows rows′ k r → length links ≤ k
+      → Sweeps back links rows rows′ (length links) r
   sweep-end rows′ k r q l =
       let e : k ≡ length links = omega (arith, q .release .within, column-long 0 links) in
       rw e at q
@@ -226,11 +226,11 @@ module _ (links rows : List (List ℕ)) (p : Ready links rows) where
           late = λ x l. q .ahead .low x (omega (arith, column-long 2 rows));
         }
 
-    module _ (rows″ : List (List ℕ)) (r : Bool) (w : Sweeps links rows′ rows″ (length links) r) where
-      w₁ : PassingLinks (starts links) (ends links) (runs rows) (releases rows′) (releases rows″) (length (starts links)) r
+    module _ (back : Bool) (rows″ : List (List ℕ)) (r : Bool) (w : Sweeps back links rows′ rows″ (length links) r) where
+      w₁ : PassingLinks back (starts links) (ends links) (runs rows) (releases rows′) (releases rows″) (length (starts links)) r
       w₁ = rw (column-long 0 links) (rw (q .same) at (w .release))
 
-      w₂ : PassingLinks (ends links) (starts links) (runs rows) (aheads rows′) (aheads rows″) (length (ends links)) r
+      w₂ : PassingLinks back (ends links) (starts links) (runs rows) (aheads rows′) (aheads rows″) (length (ends links)) r
       w₂ = rw (column-long 1 links) (rw (q .same) at (w .ahead))
 
       pub rounds-on : Rounds links rows rows″ (s + 1)
@@ -239,9 +239,9 @@ module _ (links rows : List (List ℕ)) (p : Ready links rows) where
             long = w .long ∙ q .long;
             same = w .same ∙ q .same;
             release =
-                settle-on (starts links) (ends links) (runs rows) (releases rows) (releases rows′) (releases rows″) s r (release-lined links rows p)
+                settle-on back (starts links) (ends links) (runs rows) (releases rows) (releases rows′) (releases rows″) s r (release-lined links rows p)
                 (q .release) w₁;
-            ahead = settle-on (ends links) (starts links) (runs rows) (aheads rows) (aheads rows′) (aheads rows″) s r (ahead-lined links rows p) (q .ahead) w₂;
+            ahead = settle-on back (ends links) (starts links) (runs rows) (aheads rows) (aheads rows′) (aheads rows″) s r (ahead-lined links rows p) (q .ahead) w₂;
           }
 
       pub rounds-still : r ≡ false → Rounds links rows rows″ (length rows)
@@ -251,11 +251,11 @@ module _ (links rows : List (List ℕ)) (p : Ready links rows) where
             same = w .same ∙ q .same;
             release =
                 rw (column-long 1 rows) at
-                (settle-still (starts links) (ends links) (runs rows) (releases rows) (releases rows′) (releases rows″) s r
+                (settle-still back (starts links) (ends links) (runs rows) (releases rows) (releases rows′) (releases rows″) s r
                 (release-lined links rows p) (q .release) w₁ f);
             ahead =
                 rw (column-long 2 rows) at
-                (settle-still (ends links) (starts links) (runs rows) (aheads rows) (aheads rows′) (aheads rows″) s r (ahead-lined links rows p)
+                (settle-still back (ends links) (starts links) (runs rows) (aheads rows) (aheads rows′) (aheads rows″) s r (ahead-lined links rows p)
                 (q .ahead) w₂ f);
           }
 

@@ -1,15 +1,15 @@
 -- Rounds in place over a list of links, and what they leave.
-use mathlib.Core.Path.{_≡_, refl, ap, _∙_}
+use mathlib.Core.Path.{_≡_, refl, sym, ap, _∙_}
 use mathlib.Core.Bool.{Bool, true, false}
 use mathlib.Core.List.{List}
 use mathlib.Core.Logic.{_⊎_, inl, inr, ⊎-elim}
-use Prim.Native.Nat.{ℕ, zero, suc, _+_, _*_, _≤_, _<_, min}
+use Prim.Native.Nat.{ℕ, zero, suc, _+_, _-_, _*_, _≤_, _<_, min}
 use native.Mathlib.Numerals.{add-one}
 use native.Mathlib.Omega.{arith}
 use lib.ListN.{length, getD, set, length-set}
 use lib.Seq.{getD-set-same, getD-set-other}
 use borrow.Author.Count.{below-more}
-use Rattle.vocabulary.specs.Test.{clash, lt-or-le, eq-or-ne}
+use Rattle.vocabulary.specs.Test.{pick, clash, lt-or-le, eq-or-ne}
 use Rattle.graph.specs.Graph.{Graph, LinksInside, graphOf}
 use Rattle.graph.specs.Reach.{Free}
 use Rattle.graph.specs.Longest.{entry, rounds}
@@ -64,48 +64,74 @@ pub not-raised : (w : List ℕ) (a b : ℕ) (v : List ℕ) (u : ℕ) → u ≡ m
 not-raised w a b v u e l =
     record { long = refl; grow = λ x. omega arith; got = omega arith; low = λ x h. h; under = λ s ha hs x h. h; still = λ p. refl }
 
--- ---- all links, up to link k
-pub record PassingLinks (f t w v v′ : List ℕ) (k : ℕ) (r : Bool) : Type 0 where
+-- ---- all links once, from the first on or from the last back
+-- where link j of n stands in such a sweep, and which link stands there
+abbrev pub turn : Bool → ℕ → ℕ → ℕ
+turn back n j = pick back (n - 1 - j) j
+
+pub turn-low : (back : Bool) (n j : ℕ) → j < n → turn back n j < n
+turn-low true n j l = omega arith
+turn-low false n j l = l
+
+turn-back : (back : Bool) (n j : ℕ) → j < n → turn back n (turn back n j) ≡ j
+turn-back true n j l = omega arith
+turn-back false n j l = refl
+
+-- k links are passed
+pub record PassingLinks (back : Bool) (f t w v v′ : List ℕ) (k : ℕ) (r : Bool) : Type 0 where
   pub within : k ≤ length f
   pub long : length v′ ≡ length v
   pub low : (x : ℕ) → x < length v → at v′ x ≤ limit
   pub grow : (x : ℕ) → at v x ≤ at v′ x
-  pub got : (j : ℕ) → j < k → min (at v (at f j) + at w (at f j)) limit ≤ at v′ (at t j)
+  pub got : (j : ℕ) → j < length f → turn back (length f) j < k → min (at v (at f j) + at w (at f j)) limit ≤ at v′ (at t j)
   pub under : (s : ℕ → ℕ) → ((j : ℕ) → j < length f → s (at f j) + at w (at f j) ≤ s (at t j)) → ((x : ℕ) → x < length v → at v x ≤ s x) → (x : ℕ)
       → x < length v → at v′ x ≤ s x
   pub still : r ≡ false → v′ ≡ v
 
-abbrev pub Passed : List ℕ → List ℕ → List ℕ → List ℕ → List ℕ → Bool → Type 0
-Passed f t w v v′ r = PassingLinks f t w v v′ (length f) r
+abbrev pub Passed : Bool → List ℕ → List ℕ → List ℕ → List ℕ → List ℕ → Bool → Type 0
+Passed back f t w v v′ r = PassingLinks back f t w v v′ (length f) r
 
-pub pass-from : (f t w v : List ℕ) → Lined f t w v → PassingLinks f t w v v 0 false
-pass-from f t w v l =
+pub pass-from : (back : Bool) (f t w v : List ℕ) → Lined f t w v → PassingLinks back f t w v v 0 false
+pass-from back f t w v l =
     record {
       within = omega arith;
       long = refl;
       low = l .low;
       grow = λ x. omega arith;
-      got = λ j h. absurd
-          (omega arith);
+      got = λ j m h. absurd (omega arith);
       under = λ s hs h. h;
       still = λ p. refl;
     }
 
--- a turn: r′ is whether anything has changed by now
-pub pass-on : (f t w v u u′ : List ℕ) (k : ℕ) (r c r′ : Bool) → Lined f t w v → PassingLinks f t w v u k r → k < length f
-    → Raised w (at f k) (at t k) u u′ c → (r′ ≡ false → (r ≡ false) × (c ≡ false)) → PassingLinks f t w v u′ (k + 1) r′
-pass-on f t w v u u′ k r c r′ l p lk q h =
+-- a turn, at link i: r′ is whether anything has changed by now
+pub pass-on : (back : Bool) (f t w v u u′ : List ℕ) (k i : ℕ) (r c r′ : Bool) → Lined f t w v → PassingLinks back f t w v u k r → k < length f
+    → i ≡ turn back (length f) k → Raised w (at f i) (at t i) u u′ c → (r′ ≡ false → (r ≡ false) × (c ≡ false)) → PassingLinks back f t w v u′ (k + 1) r′
+pass-on back f t w v u u′ k i r c r′ l p lk ei q h =
     record {
       within = omega arith;
       long = q .long ∙ p .long;
       low = λ x lx. q .low x (p .low x lx);
       grow = λ x. omega (arith, p .grow x, q .grow x);
-      got = below-more (λ (j : ℕ). min (at v (at f j) + at w (at f j)) limit ≤ at u′ (at t j)) k
-          (λ j lj. omega (arith, p .got j lj, q .grow (at t j)))
-          (omega (arith, q .got, p .grow (at f k)));
-      under = λ s hs hv x lx. q .under s (p .under s hs hv (at f k) (l .starts k lk)) (hs k lk) x (p .under s hs hv x lx);
+      got = λ j lj m. got j lj m (lt-or-le (turn back (length f) j) k);
+      under = λ s hs hv x lx. q .under s (p .under s hs hv (at f i) (l .starts i li)) (hs i li) x (p .under s hs hv x lx);
       still = λ e. let z = h e in q .still (z .1) ∙ p .still (z .0);
     }
+  where
+    li : i < length f
+    li = omega (arith, ei, turn-low back (length f) k lk)
+
+    got : (j : ℕ) → j < length f → turn back (length f) j < k + 1 → (turn back (length f) j < k) ⊎ (k ≤ turn back (length f) j)
+        → min (at v (at f j) + at w (at f j)) limit ≤ at u′ (at t j)
+    got j lj m (inl g) = omega (arith, p .got j lj g, q .grow (at t j))
+    got j lj m (inr g) =
+        let here : turn back (length f) j ≡ k = omega arith in
+        let e : j ≡ i = sym (turn-back back (length f) j lj) ∙ ap (turn back (length f)) here ∙ sym ei in
+        rw e (omega (arith, q .got, p .grow (at f i)))
+
+-- every link is passed
+pub pass-all : (back : Bool) (f t w v u : List ℕ) (r : Bool) → Passed back f t w v u r → (j : ℕ) → j < length f
+    → min (at v (at f j) + at w (at f j)) limit ≤ at u (at t j)
+pass-all back f t w v u r p j l = p .got j l (turn-low back (length f) j l)
 
 -- ---- rounds
 -- the numbers stand for round s: at least what s rounds give (up to the limit), at most any family that nothing breaks
@@ -139,14 +165,15 @@ step f t w v u u′ y l hy grow got x lx = go (lt-or-le (at u′ x) limit)
         )
     go (inr h) = omega arith
 
-pub settle-on : (f t w v u u′ : List ℕ) (s : ℕ) (r : Bool) → Lined f t w v → Settling f t w v u s → Passed f t w u u′ r → Settling f t w v u′ (s + 1)
+pub settle-on : (back : Bool) (f t w v u u′ : List ℕ) (s : ℕ) (r : Bool) → Lined f t w v → Settling f t w v u s → Passed back f t w u u′ r
+    → Settling f t w v u′ (s + 1)
 unfolding rounds
-settle-on f t w v u u′ s r l p q =
+settle-on back f t w v u u′ s r l p q =
     record {
       long = q .long ∙ p .long;
       low = λ x h. q .low x (omega (arith, p .long));
       grow = up;
-      reached = rw add-one (step f t w v u u′ (rounds (graphOf f t (length v)) (at v) (at w) s) l (p .reached) up (q .got));
+      reached = rw add-one (step f t w v u u′ (rounds (graphOf f t (length v)) (at v) (at w) s) l (p .reached) up (pass-all back f t w u u′ r q));
       under = λ z o x h. q .under z (o .link) (λ y ly. p .under z o y (omega (arith, p .long))) x (omega (arith, p .long));
     }
   where
@@ -154,13 +181,14 @@ settle-on f t w v u u′ s r l p q =
     up x = omega (arith, p .grow x, q .grow x)
 
 -- a pass that changes nothing has passed every round
-pub settle-still : (f t w v u u′ : List ℕ) (s : ℕ) (r : Bool) → Lined f t w v → Settling f t w v u s → Passed f t w u u′ r → r ≡ false → Settled f t w v u′
+pub settle-still : (back : Bool) (f t w v u u′ : List ℕ) (s : ℕ) (r : Bool) → Lined f t w v → Settling f t w v u s → Passed back f t w u u′ r → r ≡ false
+    → Settled f t w v u′
 unfolding rounds
-settle-still f t w v u u′ s r l p q hf = let e = q .still hf in rw e
+settle-still back f t w v u u′ s r l p q hf = let e = q .still hf in rw e
     (record { long = p .long; low = p .low; grow = p .grow; reached = all (length v); under = p .under })
   where
     got : (j : ℕ) → j < length f → min (at u (at f j) + at w (at f j)) limit ≤ at u (at t j)
-    got = let e = q .still hf in rw e at (q .got)
+    got = let e = q .still hf in rw e at (pass-all back f t w u u′ r q)
 
     all : (k x : ℕ) → x < length v → min (rounds (graphOf f t (length v)) (at v) (at w) k x) limit ≤ at u x
     all zero x h = omega (arith, p .grow x)

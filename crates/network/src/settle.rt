@@ -2,9 +2,9 @@
 // release, and how far before tick 12,000 it is due.
 ghost use mathlib.Core.Path.{_≡_};
 ghost use mathlib.Core.Bool.{true, false};
-ghost use Prim.Native.Nat.{_+_, _≤_, min};
+ghost use Prim.Native.Nat.{_+_, _≤_, _<_, min};
 ghost use lib.ListN.{length};
-ghost use Rattle.graph.specs.Pass.{limit};
+ghost use Rattle.graph.specs.Pass.{limit, turn};
 ghost use Rattle.graph.specs.Cycle.{Between, Falling};
 ghost use Rattle.graph.specs.JobRows.{starts, ends, aheads, Ready, Hop, Delayed, Hastened, Hopped, Sweeps, Rounds};
 use crate::leaves::place;
@@ -59,15 +59,24 @@ fn hop(jobs: &mut [[u32; 3]], a: usize, b: usize) -> bool
     hasten(jobs, a, b)
 }
 
-// Every link once, in place. False where nothing changed.
-fn sweep_links(links: &[[u16; 2]], jobs: &mut [[u32; 3]]) -> bool
+// Which of n links is the next after k, from the first on or from the last back.
+fn turned(back: bool, n: usize, k: usize) -> usize
+    requires { ⌜ k < n ⌝ }
+    ensures { λ r. ⌜ r ≡ turn back n k ⌝ }
+{
+    if back { n - 1 - k } else { k }
+}
+
+// Every link once, in place, from the first on or from the last back. False where nothing changed.
+fn sweep_links(links: &[[u16; 2]], jobs: &mut [[u32; 3]], back: bool) -> bool
     requires { ⌜ Ready (now links) (now jobs) ⌝ }
-    ensures { λ r. ⌜ Sweeps (now (links .entry)) (now (jobs .entry)) (now (jobs .exit)) (length (now (links .entry))) r ⌝ }
+    ensures { λ r. ⌜ Sweeps back (now (links .entry)) (now (jobs .entry)) (now (jobs .exit)) (length (now (links .entry))) r ⌝ }
 {
     let mut changed = false;
     let mut k: usize = 0;
     while k < links.len() {
-        let l = links[k];
+        let i = turned(back, links.len(), k);
+        let l = links[i];
         if hop(jobs, place(l[0]), place(l[1])) {
             changed = true;
         }
@@ -76,7 +85,8 @@ fn sweep_links(links: &[[u16; 2]], jobs: &mut [[u32; 3]]) -> bool
     changed
 }
 
-// Rounds until nothing changes, at most so many; whether the last changed nothing.
+// Rounds until nothing changes, at most so many; whether the last changed nothing. Releases go on along a chain of links and deadlines go back along it, so
+// rounds from the last link back and from the first on take turns: a chain that stands in order, from its first job on or from its last, is settled after two.
 pub(crate) fn settle(links: &[[u16; 2]], jobs: &mut [[u32; 3]], most: usize) -> bool
     requires { ⌜ Ready (now links) (now jobs) ⌝ }
     ensures { λ r. ⌜ (r ≡ true → Rounds (now (links .entry)) (now (jobs .entry)) (now (jobs .exit)) (length (now (jobs .entry))))
@@ -84,7 +94,7 @@ pub(crate) fn settle(links: &[[u16; 2]], jobs: &mut [[u32; 3]], most: usize) -> 
 {
     let mut k: usize = 0;
     while k < most {
-        if !sweep_links(links, jobs) {
+        if !sweep_links(links, jobs, k % 2 == 0) {
             return true;
         }
         k += 1;
