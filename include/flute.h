@@ -21,8 +21,7 @@
 extern "C" {
 #endif
 
-#define FLUTE_LONGEST_FILE 52868   /* no file that flute_read takes has more bytes */
-#define FLUTE_LONGEST_SLICE_FILE 148884   /* no file that flute_read_slices takes has more bytes */
+#define FLUTE_LONGEST_FILE 52868   /* no file that is read has more bytes */
 #define FLUTE_MOST_TASKS 64
 #define FLUTE_MOST_PROCESSORS 8
 #define FLUTE_LONGEST_CYCLE 6000   /* H, in ticks */
@@ -59,62 +58,6 @@ uint32_t flute_read_evidence(const uint8_t *file, size_t file_len, uint32_t whic
 uint32_t flute_write(const uint8_t *tasks, size_t tasks_len, const uint8_t *plan, size_t plan_len, uint8_t *out, size_t out_len);
 uint32_t flute_write_evidence(const uint8_t *tasks, size_t tasks_len, const uint8_t *plan, size_t plan_len, const uint8_t *out, size_t out_len,
                               uint32_t which);
-
-/* A plan has a second form, its slices: a slice says that a processor shows task `task` from tick `start` up to, but not with, tick `end`, and between slices
-   the processor is idle. In memory the slices of all processors stand in one row, those of processor 0 first, beside one count for each processor; in a file
-   they stand in place of the slots, and the number of the edition is 16 higher. A row of slices is allowed where no slice breaks a rule, 19: each begins at
-   the end of the one before it or later, ends behind its start and not past H, shows a task that there is, and does not go on with the task of a slice that
-   it touches. Such a row is the only one that stands for its slots. */
-struct flute_slice { uint32_t start, end, task; };
-
-/* Reads a plan file in the slice form, as flute_read does one with slots: 1, 2, 4, 5, 6, 9 and 8 as there, and
-     0  read: evidence is the place of the first count of slices
-     3  the edition's number is neither 17 nor 18: 0
-    19  a slice has no ticks or ends past H: its length's first byte; its task is unknown, or that of the slice that it touches: its task's first byte
-   After the head stands, for each processor, a count of slices, and for each slice the idle ticks since the end of the last one, or since 0, its length and
-   its task. Nothing is written. */
-uint32_t flute_read_slices(const uint8_t *file, size_t file_len);
-uint32_t flute_read_slices_evidence(const uint8_t *file, size_t file_len, uint32_t which);
-
-/* Moves a plan into slices. Tested in this order:
-    10  bad tasks
-    11  the plan has not exactly m·H slots, or there are not exactly m counts
-    12  a slot is above the task count: the lowest such place in the plan
-    18  slices is shorter than the plan has slices; m·H slices are always enough
-     0  the slices stand at the start of slices, and all m counts are written
-   Slices after those of the plan stay as they were. */
-uint32_t flute_slices(const uint8_t *tasks, size_t tasks_len, const uint8_t *plan, size_t plan_len, struct flute_slice *slices, size_t slices_len,
-                      uint32_t *counts, size_t counts_len);
-uint32_t flute_slices_evidence(const uint8_t *tasks, size_t tasks_len, const uint8_t *plan, size_t plan_len, const struct flute_slice *slices,
-                               size_t slices_len, const uint32_t *counts, size_t counts_len, uint32_t which);
-
-/* Moves slices into the plan that they stand for. Tested in this order:
-    10  bad tasks
-    11  there are not exactly m counts, they do not add up to the slices, or the plan has not exactly m·H slots
-    19  a slice breaks a rule: the lowest processor that has one, and its lowest such slice, counted within that processor's from 0
-     0  all slots of the plan are written */
-uint32_t flute_grid(const uint8_t *tasks, size_t tasks_len, const struct flute_slice *slices, size_t slices_len, const uint32_t *counts, size_t counts_len,
-                    uint8_t *plan, size_t plan_len);
-uint32_t flute_grid_evidence(const uint8_t *tasks, size_t tasks_len, const struct flute_slice *slices, size_t slices_len, const uint32_t *counts,
-                             size_t counts_len, const uint8_t *plan, size_t plan_len, uint32_t which);
-
-/* Judges the plan that slices stand for. Refuses by 10, 11 and 19 as flute_grid does, but for the plan's length; else it answers and shows what flute_judge
-   does for that plan. Nothing is written. Slices that are refused can take very long: ask flute_grid first. */
-uint32_t flute_judge_slices(const uint8_t *tasks, size_t tasks_len, const struct flute_slice *slices, size_t slices_len, const uint32_t *counts,
-                            size_t counts_len);
-uint32_t flute_judge_slices_evidence(const uint8_t *tasks, size_t tasks_len, const struct flute_slice *slices, size_t slices_len, const uint32_t *counts,
-                                     size_t counts_len, uint32_t which);
-
-/* Turns a plan file with slots into the same plan in the slice form, and back. Refuses by the numbers of flute_read, or of flute_read_slices, with their
-   evidence; then
-    18  out is shorter than the file
-     0  the file stands at the start of out: evidence is its length
-   Bytes of out after the file stay as they were. Packing a file and unpacking it gives its bytes, and the other way round. FLUTE_LONGEST_SLICE_FILE bytes are
-   enough for any packed file, FLUTE_LONGEST_FILE for any unpacked one. */
-uint32_t flute_pack(const uint8_t *file, size_t file_len, uint8_t *out, size_t out_len);
-uint32_t flute_pack_evidence(const uint8_t *file, size_t file_len, const uint8_t *out, size_t out_len, uint32_t which);
-uint32_t flute_unpack(const uint8_t *file, size_t file_len, uint8_t *out, size_t out_len);
-uint32_t flute_unpack_evidence(const uint8_t *file, size_t file_len, const uint8_t *out, size_t out_len, uint32_t which);
 
 /* Looks for reasons why these tasks can have no plan. Tested in this order:
     10  bad tasks

@@ -9,7 +9,6 @@ use Rattle.vocabulary.specs.Bits.{has, pack}
 use Rattle.vocabulary.specs.Multiple.{lcm, lcm_of}
 use Rattle.kinds.specs.Limits.{holds, rises}
 use Rattle.kinds.specs.Editions.{edition_of}
-use Rattle.kinds.specs.Forms.{added}
 use Rattle.kinds.specs.Tasks.{Set, pairs_in}
 use Rattle.kinds.specs.Cycle.{cycle, jobs_of, jobs_before, jobs, cycle_fits}
 use Rattle.kinds.specs.Jobs.{release}
@@ -198,7 +197,7 @@ unfolding dispatcher_cases state fresh state_bytes other small_set two_head late
     pairs_in cycle jobs_of jobs_before jobs cycle_fits release common link_from link_to repeats links_of links edition_of spans_of links_in attributes_fit task_fits pair_key
     pair_fits pattern_key heading_fits pattern_fits opening_fits sound slot shows shown awake runs ticks first_tick last_tick number_at held got_at and_then times_from task_from on_task tasks_from
     two_at on_two pairs_from count_from heading_at on_heading on_pairs pattern_from on_pattern patterns_from opening_of middle_from on_opening on_tasks on_middle on_patterns head_from
-    take_head taken_of high twin mated clashes strays strayed miscounts miscounted against bars broken breaks broken_pair broken_pattern high_at twice_at added
+    take_head taken_of high twin mated clashes strays strayed miscounts miscounted against bars broken breaks broken_pair broken_pattern high_at twice_at
     outside_at wrong_at broken_at plan_rules rules verdict_of releases heard done_at done_of asleep byte_of row_of stands_at in_row ran_of after_of step_of on_verdict
     started_of impossible overreports high_slot is_high high_place step_rules answer_by if_shown lengths_fit answer_of stepped_of left_of bytes number bytes_of
     unclear state_of written_of first_bytes start_rules start_verdict start_for answer_in step_for state_at shown_at

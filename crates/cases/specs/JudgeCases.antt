@@ -8,7 +8,6 @@ use Rattle.vocabulary.specs.Table.{table, gather}
 use Rattle.vocabulary.specs.Multiple.{lcm, lcm_of}
 use Rattle.kinds.specs.Limits.{holds, rises}
 use Rattle.kinds.specs.Editions.{edition_of}
-use Rattle.kinds.specs.Forms.{added}
 use Rattle.kinds.specs.Tasks.{Set, pairs_in}
 use Rattle.kinds.specs.Cycle.{cycle, jobs_of, jobs_before, jobs, cycle_fits}
 use Rattle.kinds.specs.Jobs.{release}
@@ -168,7 +167,7 @@ judge_cases =
 -- ==== The judge's definition answers each of them so.
 pub judge_cases_lem : Answered judge_cases
 unfolding judge_cases on_some full late_by over_end both_over_end twice_late most most_slots linked linked_slots two_then_one roundabout late_next
-    small small_head small_slots reply task_numbers raw_headings added
+    small small_head small_slots reply task_numbers raw_headings
     raw_pairs lent_set least greatest all first_of count total table gather lcm lcm_of holds rises pairs_in cycle jobs_of jobs_before jobs cycle_fits release common
     link_from link_to repeats links_of links edition_of spans_of links_in attributes_fit task_fits pair_key pair_fits pattern_key heading_fits pattern_fits opening_fits sound
     slot shows shown awake runs ticks first_tick last_tick number_at held got_at and_then times_from task_from on_task tasks_from two_at on_two pairs_from count_from heading_at on_heading

@@ -13,7 +13,6 @@ use Rattle.graph.specs.Longest as longest
 use Rattle.graph.specs.Soonest as soonest
 use Rattle.kinds.specs.Limits.{holds, rises}
 use Rattle.kinds.specs.Editions.{edition_of}
-use Rattle.kinds.specs.Forms.{added}
 use Rattle.kinds.specs.Tasks.{Set, view, pairs_in}
 use Rattle.kinds.specs.Cycle.{cycle, jobs_of, jobs_before, jobs, cycle_fits}
 use Rattle.kinds.specs.Jobs.{release, due, in_window, number_of_job, task_of_job, job_of_job}
@@ -135,7 +134,7 @@ cases =
 marked_cases : Answered cases
 unfolding cases file_a set_a slots_a set_c slots_c set_d slots_d set_g set_h set_i set_j set_k minus reply number_reply task_numbers heading_numbers pair_numbers set_of
     silence report_after least greatest all count total table join gather has pack lcm lcm_of reach loops longest.most longest.entry longest.rounds soonest.fewest
-    soonest.due soonest.soonest holds rises pairs_in cycle jobs_of jobs_before jobs cycle_fits release due in_window number_of_job task_of_job job_of_job common added
+    soonest.due soonest.soonest holds rises pairs_in cycle jobs_of jobs_before jobs cycle_fits release due in_window number_of_job task_of_job job_of_job common
     link_from link_to repeats links_of links inner edition_of spans_of links_in attributes_fit task_fits pair_key pair_fits pattern_key heading_fits pattern_fits opening_fits
     sound slot shows shown awake runs ticks first_tick last_tick number_at held got_at and_then times_from task_from on_task tasks_from two_at on_two pairs_from count_from heading_at on_heading
     on_pairs pattern_from on_pattern patterns_from opening_of middle_from on_opening on_tasks on_middle on_patterns head_from slots_from on_slots on_head read_of high twin mated clashes

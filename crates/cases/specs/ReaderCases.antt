@@ -6,7 +6,6 @@ use Rattle.vocabulary.specs.Table.{table}
 use Rattle.vocabulary.specs.Multiple.{lcm, lcm_of}
 use Rattle.kinds.specs.Limits.{holds, rises}
 use Rattle.kinds.specs.Editions.{edition_of}
-use Rattle.kinds.specs.Forms.{added}
 use Rattle.kinds.specs.Cycle.{cycle, jobs_of, jobs_before, jobs, cycle_fits}
 use Rattle.kinds.specs.Links.{spans_of, links_in}
 use Rattle.numbers.specs.Numbers.{number_at, held, got_at, and_then}
@@ -74,11 +73,9 @@ reader_cases =
     ∷ (ask.reading (from small 3 (0xFF ∷ 0xFF ∷ 0xFF ∷ [])), says (2 ∷ 3 ∷ []))
     ∷ (ask.reading (from small 0 (0x81 ∷ 0x00 ∷ [])), says (2 ∷ 0 ∷ []))
     ∷ (ask.reading (from small 16 (0x80 ∷ 0x00 ∷ [])), says (2 ∷ 16 ∷ []))
-    -- 3: editions 0, 3 and 128, and 17 and 18, which are editions 1 and 2 in the slice form; 2 is known.
+    -- 3: editions 0, 3 and 128; 2 is known.
     ∷ (ask.reading (set small 0 0), says (3 ∷ 0 ∷ []))
     ∷ (ask.reading (set small 0 3), says (3 ∷ 0 ∷ []))
-    ∷ (ask.reading (set small 0 17), says (3 ∷ 0 ∷ []))
-    ∷ (ask.reading (set small 0 18), says (3 ∷ 0 ∷ []))
     ∷ (ask.reading (from small 0 (0x80 ∷ 0x01 ∷ [])), says (3 ∷ 0 ∷ []))
     ∷ (ask.reading (set small 0 2), says (0 ∷ 17 ∷ []))
     -- 4: no task, 65 tasks; 64 are read on.
@@ -171,7 +168,7 @@ reader_cases =
 -- ==== The reader's definition answers each of them so.
 pub reader_cases_lem : Answered reader_cases
 unfolding reader_cases small patterned coprime from from_seven to_seven one_pair eight among_seven reply task_numbers least all total table lcm lcm_of holds
-    rises cycle jobs_of jobs_before jobs cycle_fits edition_of added spans_of links_in number_at held got_at and_then times_from task_from on_task tasks_from
+    rises cycle jobs_of jobs_before jobs cycle_fits edition_of spans_of links_in number_at held got_at and_then times_from task_from on_task tasks_from
     two_at on_two pairs_from count_from
     heading_at on_heading on_pairs pattern_from on_pattern patterns_from opening_of middle_from on_opening on_tasks on_middle on_patterns head_from high slots_from on_slots on_head read_of
 reader_cases_lem = refl

@@ -7,7 +7,6 @@ use Rattle.vocabulary.specs.Table.{join}
 use Rattle.vocabulary.specs.Multiple.{lcm, lcm_of}
 use Rattle.kinds.specs.Limits.{holds, rises}
 use Rattle.kinds.specs.Editions.{edition_of}
-use Rattle.kinds.specs.Forms.{added}
 use Rattle.kinds.specs.Tasks.{Set, pairs_in}
 use Rattle.kinds.specs.Cycle.{cycle, jobs_of, jobs_before, jobs, cycle_fits}
 use Rattle.kinds.specs.Links.{common, repeats, links_of, links, spans_of, links_in}
@@ -82,7 +81,7 @@ writer_cases =
 pub writer_cases_lem : Answered writer_cases
 unfolding writer_cases of_edition wide linked buffer small small_head small_slots reply task_numbers raw_headings
     raw_pairs lent_set least all first_of total join lcm lcm_of holds rises pairs_in cycle jobs_of jobs_before jobs cycle_fits common
-    repeats links_of links edition_of added spans_of links_in attributes_fit task_fits pair_key pair_fits pattern_key heading_fits pattern_fits opening_fits sound
+    repeats links_of links edition_of spans_of links_in attributes_fit task_fits pair_key pair_fits pattern_key heading_fits pattern_fits opening_fits sound
     number_at number_bytes held got_at and_then times_from task_from on_task tasks_from two_at on_two pairs_from count_from heading_at on_heading
     on_pairs pattern_from on_pattern patterns_from opening_of middle_from on_opening on_tasks on_middle on_patterns head_from take_head taken_of high
     head_numbers bytes_in head_bytes bytes_of rules written_of left_in write_for written_head write_head_for

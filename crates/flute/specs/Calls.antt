@@ -9,7 +9,6 @@ use Rattle.numbers.specs.declared.Refusal.TheVariants as refusal
 use Rattle.numbers.specs.Answers.{refusal_evidence}
 use Rattle.reader.specs.Answers.{number_of, evidence_of}
 use Rattle.reader.specs.Files.{read_of}
-use Rattle.slice_files.specs.SliceFiles.{read_slices_of}
 use Rattle.writer.specs.declared.Written.{Written}
 use Rattle.writer.specs.Answers as writeAnswers
 use Rattle.writer.specs.Writing.{WriteLeft, write_leaves}
@@ -35,13 +34,6 @@ read_number file = number_of (read_of file).outcome
 
 unfoldable pub read_evidence : List ℕ → ℕ → ℕ
 read_evidence file which = evidence_in (evidence_of (read_of file).outcome) which
-
--- ---- flute_read_slices
-unfoldable pub read_slices_number : List ℕ → ℕ
-read_slices_number file = number_of (read_slices_of file).outcome
-
-unfoldable pub read_slices_evidence : List ℕ → ℕ → ℕ
-read_slices_evidence file which = evidence_in (evidence_of (read_slices_of file).outcome) which
 
 -- ---- flute_start: the verdict's number, and what is left in the state's bytes
 pub record StartLeft (b : StartForC) (r : ℕ) (state : List ℕ) : Type 0 where
@@ -111,7 +103,6 @@ one_place (refusal.Disordered p) = refl
 one_place (refusal.TooManyLinks p) = refl
 one_place (refusal.BadSlot p) = refl
 one_place (refusal.LeftOver p) = refl
-one_place (refusal.BadSlice p) = refl
 
 pub one_evidence : (o : Outcome) → evidence_of o ≡ get_or (evidence_of o) 0 0 ∷ []
 one_evidence (outcome.At p) = refl
@@ -122,30 +113,16 @@ pub read_number_lem : (file : List ℕ) {o : Outcome} {n : ℕ} → o ≡ (read_
 unfolding read_number
 read_number_lem file e q = q ∙ ap number_of e
 
--- evidence number `which` of an answer w, of which only one place is asked
-evidence_by : (w : Outcome) (which : ℕ) {o : Outcome} {p x r : ℕ} → o ≡ w → p ≡ get_or (evidence_of o) 0 0 → x ≡ get_or (p ∷ []) which 0 → r ≡ x % 4294967296
-    → r ≡ evidence_in (evidence_of w) which
-evidence_by w which {o} e q x r =
+pub read_evidence_lem : (file : List ℕ) (which : ℕ) {o : Outcome} {p x r : ℕ} → o ≡ (read_of file).outcome → p ≡ get_or (evidence_of o) 0 0
+    → x ≡ get_or (p ∷ []) which 0 → r ≡ x % 4294967296 → r ≡ read_evidence file which
+unfolding read_evidence
+read_evidence_lem file which {o} e q x r =
     r
     ∙ ap (λ (y : ℕ). y % 4294967296)
     (x
     ∙ ap (λ (y : ℕ). get_or (y ∷ []) which 0) q
     ∙ ap (λ (ys : List ℕ). get_or ys which 0) (sym (one_evidence o))
     ∙ ap (λ (o : Outcome). get_or (evidence_of o) which 0) e)
-
-pub read_evidence_lem : (file : List ℕ) (which : ℕ) {o : Outcome} {p x r : ℕ} → o ≡ (read_of file).outcome → p ≡ get_or (evidence_of o) 0 0
-    → x ≡ get_or (p ∷ []) which 0 → r ≡ x % 4294967296 → r ≡ read_evidence file which
-unfolding read_evidence
-read_evidence_lem file which e q x r = evidence_by (read_of file).outcome which e q x r
-
-pub read_slices_number_lem : (file : List ℕ) {o : Outcome} {n : ℕ} → o ≡ (read_slices_of file).outcome → n ≡ number_of o → n ≡ read_slices_number file
-unfolding read_slices_number
-read_slices_number_lem file e q = q ∙ ap number_of e
-
-pub read_slices_evidence_lem : (file : List ℕ) (which : ℕ) {o : Outcome} {p x r : ℕ} → o ≡ (read_slices_of file).outcome → p ≡ get_or (evidence_of o) 0 0
-    → x ≡ get_or (p ∷ []) which 0 → r ≡ x % 4294967296 → r ≡ read_slices_evidence file which
-unfolding read_slices_evidence
-read_slices_evidence_lem file which e q x r = evidence_by (read_slices_of file).outcome which e q x r
 
 -- evidence of an answer, by its place and in 32 bits: E gives the evidence of each answer
 pub narrowed : {A : Type 0} (E : A → List ℕ) (b : A) (which : ℕ) {a : A} {x r : ℕ} → a ≡ b → x ≡ get_or (E a) which 0 → r ≡ x % 4294967296

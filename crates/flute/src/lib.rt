@@ -9,8 +9,6 @@ ghost use Rattle.dispatcher.specs.ForC.{start_for, step_for};
 ghost use Rattle.flute.specs.Calls.{evidence_in, read_number, read_evidence, StartLeft, StepLeft};
 
 mod adjust;
-mod pack;
-mod slice_form;
 mod write;
 
 // Evidence as C has it: in 32 bits.

@@ -8,21 +8,15 @@ use native.Mathlib.Omega.{arith}
 use borrow.Author.Tests.{leb-true}
 use lib.Dec.{leb, eqb}
 use Rattle.vocabulary.specs.Test.{pick, both, fails}
-use Rattle.kinds.specs.declared.Form.{Form}
 use Rattle.kinds.specs.declared.Key.{Key}
 use Rattle.kinds.specs.declared.Cycle.{Cycle}
-use Rattle.kinds.specs.Limits.{range, after}
-use Rattle.kinds.specs.Forms.{added, editions_in}
+use Rattle.kinds.specs.Limits.{after}
 use Rattle.kinds.specs.Tasks.{Tasks}
 use Rattle.kinds.specs.Cycle.{cycle, cycle_fits, cycle_is, periods_fit, no_cycle, cycle_of}
 use Rattle.kinds.specs.Links.{links_in}
-use Rattle.kinds.specs.RangeLaws.{holds_at, added_low, cycle_pos}
+use Rattle.kinds.specs.RangeLaws.{holds_at, cycle_pos}
 use Rattle.kinds.proofs.PatternWalk.{HeadingFacts, heading_facts}
 use Rattle.kinds.specs.SoundByTests.{few_tasks}
-use Rattle.numbers.specs.declared.Refusal.TheVariants as refusal
-use Rattle.numbers.specs.declared.Got.{Got}
-use Rattle.numbers.specs.declared.Got.TheVariants as got
-use Rattle.numbers.specs.Numbers.{got_at}
 use Rattle.heads.specs.declared.Heading as answer
 use Rattle.heads.specs.declared.Heading.TheVariants as heading
 use Rattle.heads.specs.declared.Progress.{Progress}
@@ -34,7 +28,7 @@ use Rattle.heads.specs.declared.Middle.{Middle}
 use Rattle.heads.specs.declared.Middle.TheVariants as middle
 use Rattle.heads.specs.Tables.{heading_at, PatternTables, progress, PatternRead, pattern_read, pattern_from}
 use Rattle.heads.specs.Heads.{opening_of, middle_from}
-use Rattle.heads.proofs.ReadInRange.{let_through, heading_fits_lem, opening_fits_lem, middle_fits}
+use Rattle.heads.proofs.ReadInRange.{heading_fits_lem, opening_fits_lem, middle_fits}
 use Rattle.heads.proofs.ReadSteps.{pattern_went}
 
 -- a heading that was let through names two of the n tasks, and its pairs leave room
@@ -64,23 +58,9 @@ pattern_low s e t h i done u {next = next} l a b =
     let f = heading_bounds s done.at done.low t.count done.used w.x w.y w.c w.p refl w.is in
     rw y (omega (arith, f.room), omega (arith, links_low w.c h w.spans.whole refl f l))
 
--- ---- the first number of a file: what the form adds to the edition is at most 16,
-pub added_most : (form : Form) {a : ℕ} → a ≡ added form → a ≤ 16
-added_most form e = omega (arith, added_low form)
-
--- the number is read in the range of the form,
-pub first_number : (form : Form) (s : List ℕ) {a : ℕ} {g : Got} → a ≡ added form → g ≡ got_at s 0 (range (a + 1) (a + 3)) refusal.UnknownEdition
-    → g ≡ got_at s 0 (editions_in form) refusal.UnknownEdition
-first_number form s e h = rw e at h
-
--- and is not below what the form adds
-pub number_above : (form : Form) (s : List ℕ) (v p : ℕ) {a : ℕ} {g : Got} → a ≡ added form → g ≡ got_at s 0 (range (a + 1) (a + 3)) refusal.UnknownEdition
-    → g ≡ got.Value v p → a ≤ v
-number_above form s v p {a} e h w = omega (arith, holds_at (a + 1) (a + 3) v (let_through _ _ _ _ _ _ (sym h ∙ w)))
-
 -- counts and cycle that were let through
-pub opening_low : (form : Form) (s : List ℕ) (e n m q : ℕ) {o : Opening} → o ≡ opening_of form s → o ≡ opening.Of e n m q → n ≤ 64
-opening_low form s e n m q p w = few_tasks e n m (opening_fits_lem form s e n m q (sym p ∙ w))
+pub opening_low : (s : List ℕ) (e n m q : ℕ) {o : Opening} → o ≡ opening_of s → o ≡ opening.Of e n m q → n ≤ 64
+opening_low s e n m q p w = few_tasks e n m (opening_fits_lem s e n m q (sym p ∙ w))
 
 pub middle_low : (s : List ℕ) (at : ℕ) (t : Tasks) (c : Cycle) (k q : ℕ) {w : Middle}
     → w ≡ middle_from s at t → w ≡ middle.Of c k q → (k ≤ 64) × (c.ticks ≤ 6000)

@@ -9,7 +9,6 @@ use lib.Dec.{leb}
 use Rattle.vocabulary.specs.Test.{both}
 use Rattle.vocabulary.specs.Least.{all, all_from}
 use Rattle.vocabulary.specs.Keep.{row_none}
-use Rattle.kinds.specs.declared.Form.{Form}
 use Rattle.kinds.specs.declared.Task.{Task}
 use Rattle.kinds.specs.declared.TaskSet.{TaskSet}
 use Rattle.kinds.specs.Limits.{holds, periods, no_key}
@@ -31,8 +30,8 @@ use Rattle.heads.proofs.ReadSteps.{HeadWent, head_went}
 use Rattle.heads.proofs.ReadIsSound.{TasksDone, tasks_all, PatternsRow, patterns_in, PatternsDone, patterns_done}
 
 -- the head that is read into tables that are all 0, and its set
-abbrev pub head_of : Form → List ℕ → HeadRead
-head_of form s = head_from form s no_attributes no_pattern_tables
+abbrev pub head_of : List ℕ → HeadRead
+head_of s = head_from s no_attributes no_pattern_tables
 
 abbrev pub set_in : HeadRead → Counts → TaskSet
 set_in r f = set_of f r.tasks r.patterns
@@ -54,7 +53,7 @@ low_cycle : (u : Tasks) → cycle_fits u ≡ true → cycle u ≤ 6000
 unfolding cycle_fits
 low_cycle u e = leb-true (cycle u) 6000 (both {a = leb (cycle u) 6000} e).0
 
-module _ (form : Form) (s : List ℕ) (f : Counts) (at : ℕ) (w : HeadWent form s no_attributes no_pattern_tables f at) where
+module _ (s : List ℕ) (f : Counts) (at : ℕ) (w : HeadWent s no_attributes no_pattern_tables f at) where
   abbrev n : ℕ
   n = w.n
 
@@ -68,7 +67,7 @@ module _ (form : Form) (s : List ℕ) (f : Counts) (at : ℕ) (w : HeadWent form
   t = tasks_of n u
 
   opened : opening_fits w.e n w.m ≡ true
-  opened = opening_fits_lem form s w.e n w.m w.p₀ w.opened
+  opened = opening_fits_lem s w.e n w.m w.p₀ w.opened
 
   few : n ≤ 64
   few = few_tasks w.e n w.m opened
@@ -122,7 +121,7 @@ module _ (form : Form) (s : List ℕ) (f : Counts) (at : ℕ) (w : HeadWent form
       subst (λ (g : Counts). HeadSound (head_read (head.Of f at) u v) g) w.shape
       (record { is_sound = set_sound; blank = set_blank; ticks = between.ticks; jobs = between.jobs })
 
-pub head_sound : (form : Form) (s : List ℕ) (f : Counts) (at : ℕ) → (head_of form s).outcome ≡ head.Of f at → HeadSound (head_of form s) f
-head_sound form s f at e =
-    let w = head_went form s no_attributes no_pattern_tables f at e in
-    subst (λ (r : HeadRead). HeadSound r f) (sym w.is) (went_sound form s f at w)
+pub head_sound : (s : List ℕ) (f : Counts) (at : ℕ) → (head_of s).outcome ≡ head.Of f at → HeadSound (head_of s) f
+head_sound s f at e =
+    let w = head_went s no_attributes no_pattern_tables f at e in
+    subst (λ (r : HeadRead). HeadSound r f) (sym w.is) (went_sound s f at w)

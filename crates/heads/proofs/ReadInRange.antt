@@ -2,20 +2,19 @@
 use mathlib.Core.Bool.{Bool, true, false}
 use mathlib.Core.Path.{◌≡◌, refl, sym, ap, ◌∙◌, subst}
 use mathlib.Core.List.{List}
-use Prim.Native.Nat.{ℕ, ◌+◌, ◌-◌, ◌<◌, ◌≤◌}
+use Prim.Native.Nat.{ℕ, ◌+◌, ◌<◌, ◌≤◌}
 use native.Mathlib.Omega.{arith}
 use lib.Dec.{leb, eqb}
 use Rattle.vocabulary.specs.Test.{took, missed, both}
-use Rattle.kinds.specs.declared.Form.{Form}
 use Rattle.kinds.specs.declared.Key.{Key}
 use Rattle.kinds.specs.Limits.{Range, range, holds, task_counts, processor_counts, periods, runnings, offsets, deadlines, pattern_counts, most_pairs, first_range, second_range, rises}
-use Rattle.kinds.specs.Forms.{added, editions_in}
+use Rattle.kinds.specs.Editions.{editions}
 use Rattle.kinds.specs.declared.Task.{Task}
 use Rattle.kinds.specs.Tasks.{Tasks, task_of}
 use Rattle.kinds.specs.declared.Cycle.{Cycle}
 use Rattle.kinds.specs.Cycle.{cycle, jobs, cycle_is, cycle_fits}
 use Rattle.kinds.specs.Sound.{attributes_fit, heading_fits, opening_fits}
-use Rattle.kinds.specs.RangeLaws.{holds_at, edition_known}
+use Rattle.kinds.specs.RangeLaws.{holds_at}
 use Rattle.numbers.specs.declared.Refusal.{Refusal}
 use Rattle.numbers.specs.declared.Refusal.TheVariants as refusal
 use Rattle.numbers.specs.declared.Number.{Number}
@@ -163,18 +162,17 @@ heading_fits_lem s at low n used x y c q e =
 pub refused_opening : {r : Refusal} {e n m q : ℕ} → opening.Refused r ≡ opening.Of e n m q → ⊥
 refused_opening e = let z : ◌≡◌ {A = ℕ} 0 1 = cc in omega arith
 
-pub opening_fits_lem : (form : Form) (s : List ℕ) (e n m q : ℕ) → opening_of form s ≡ opening.Of e n m q → opening_fits e n m ≡ true
+pub opening_fits_lem : (s : List ℕ) (e n m q : ℕ) → opening_of s ≡ opening.Of e n m q → opening_fits e n m ≡ true
 unfolding opening_of opening_fits
-opening_fits_lem form s e n m q w =
+opening_fits_lem s e n m q w =
     let no : (r : Refusal) → opening.Refused r ≡ opening.Of e n m q → ⊥ = λ r x. refused_opening x in
-    let i = went opening.Refused (got_at s 0 (editions_in form) refusal.UnknownEdition) _ (opening.Of e n m q) no w in
+    let i = went opening.Refused (got_at s 0 editions refusal.UnknownEdition) _ (opening.Of e n m q) no w in
     let j = went opening.Refused (got_at s i.next task_counts (refusal.OutOfLimits i.next)) _ (opening.Of e n m q) no i.on in
     let k = went opening.Refused (got_at s j.next processor_counts (refusal.OutOfLimits j.next)) _ (opening.Of e n m q) no j.on in
-    let xe : i.value - added form ≡ e = cc k.on in
-    let known = (edition_known form i.value (let_through _ _ _ _ _ _ i.is)).0 in
+    let xe : i.value ≡ e = cc k.on in
     let xn : j.value ≡ n = cc k.on in
     let xm : k.value ≡ m = cc k.on in
-    let f : opening_fits (i.value - added form) j.value k.value ≡ true = rw (known, let_through _ _ _ _ _ _ j.is) (let_through _ _ _ _ _ _ k.is) in
+    let f : opening_fits i.value j.value k.value ≡ true = rw (let_through _ _ _ _ _ _ i.is, let_through _ _ _ _ _ _ j.is) (let_through _ _ _ _ _ _ k.is) in
     same₃ opening_fits xe xn xm f
 
 pub refused_middle : {r : Refusal} {c : Cycle} {k q : ℕ} → middle.Refused r ≡ middle.Of c k q → ⊥

@@ -6,7 +6,6 @@ use Prim.Native.Nat.{ℕ, suc, ◌+◌}
 use native.Mathlib.Omega.{arith}
 use lib.Dec.{leb}
 use Rattle.vocabulary.specs.Test.{took}
-use Rattle.kinds.specs.declared.Form.{Form}
 use Rattle.kinds.specs.declared.Key.{Key}
 use Rattle.kinds.specs.declared.Spans.{Spans}
 use Rattle.kinds.specs.Limits.{no_key, after, most_links}
@@ -148,7 +147,7 @@ module _ (s : List ℕ) (e : ℕ) (t : Tasks) (h i : ℕ) (done : Progress) (u :
   patterns_rest k w = rw w.to
 
 -- ---- the head
-pub record HeadWent (form : Form) (s : List ℕ) (t : List ℕ) (v : PatternTables) (f : Counts) (at : ℕ) : Type 0 where
+pub record HeadWent (s : List ℕ) (t : List ℕ) (v : PatternTables) (f : Counts) (at : ℕ) : Type 0 where
   pub e : ℕ
   pub n : ℕ
   pub m : ℕ
@@ -160,19 +159,19 @@ pub record HeadWent (form : Form) (s : List ℕ) (t : List ℕ) (v : PatternTabl
   pub l : ℕ
   pub tasks : List ℕ
   pub patterns : PatternTables
-  pub opened : opening_of form s ≡ opening.Of e n m p₀
+  pub opened : opening_of s ≡ opening.Of e n m p₀
   pub tasked : tasks_from s n 0 p₀ t ≡ tasks_read (outcome.At p₁) tasks
   pub between : middle_from s p₁ (tasks_of n tasks) ≡ middle.Of cy k p₂
   pub patterned : patterns_after s p₂ (counts_are e m n k cy) tasks v ≡ patterns_read (linked.At at l) patterns
   pub few : leb l most_links ≡ true
   pub shape : counts_are e m n k cy ≡ f
-  pub is : head_from form s t v ≡ head_read (head.Of f at) tasks patterns
+  pub is : head_from s t v ≡ head_read (head.Of f at) tasks patterns
 
-module _ (form : Form) (s : List ℕ) (t : List ℕ) (v : PatternTables) (f : Counts) (at : ℕ) where
-  module _ (e n m p₀ : ℕ) (a : opening_of form s ≡ opening.Of e n m p₀) where
+module _ (s : List ℕ) (t : List ℕ) (v : PatternTables) (f : Counts) (at : ℕ) where
+  module _ (e n m p₀ : ℕ) (a : opening_of s ≡ opening.Of e n m p₀) where
     module _ (u : List ℕ) (p₁ : ℕ) (b : tasks_from s n 0 p₀ t ≡ tasks_read (outcome.At p₁) u) where
       by_links : (cy : Cycle) (k p₂ : ℕ) → middle_from s p₁ (tasks_of n u) ≡ middle.Of cy k p₂ → (o : Linked) (w : PatternTables) → patterns_after s p₂ (counts_are e m n k cy) u v ≡ patterns_read o w
-          → (on_patterns o u w (counts_are e m n k cy)).outcome ≡ head.Of f at → HeadWent form s t v f at
+          → (on_patterns o u w (counts_are e m n k cy)).outcome ≡ head.Of f at → HeadWent s t v f at
       unfolding on_patterns head_from on_opening on_tasks on_middle
       by_links cy k p₂ c (linked.At p l) w d g =
           let x = took (leb l most_links) _ _ _ g refused_head in
@@ -201,7 +200,7 @@ module _ (form : Form) (s : List ℕ) (t : List ℕ) (v : PatternTables) (f : Co
       by_links cy k p₂ c (linked.Refused r) w d g = absurd (refused_head g)
 
       by_middle : (o : Middle) → middle_from s p₁ (tasks_of n u) ≡ o
-          → (on_middle o u v (λ cy k p₂. let w : PatternsRead = patterns_after s p₂ (counts_are e m n k cy) u v in on_patterns w.outcome u w.tables (counts_are e m n k cy))).outcome ≡ head.Of f at → HeadWent form s t v f at
+          → (on_middle o u v (λ cy k p₂. let w : PatternsRead = patterns_after s p₂ (counts_are e m n k cy) u v in on_patterns w.outcome u w.tables (counts_are e m n k cy))).outcome ≡ head.Of f at → HeadWent s t v f at
       unfolding on_middle
       by_middle (middle.Of cy k p₂) c g =
           let w : PatternsRead = patterns_after s p₂ (counts_are e m n k cy) u v in
@@ -209,16 +208,16 @@ module _ (form : Form) (s : List ℕ) (t : List ℕ) (v : PatternTables) (f : Co
       by_middle (middle.Refused r) c g = absurd (refused_head g)
 
     by_tasks : (o : Outcome) (u : List ℕ) → tasks_from s n 0 p₀ t ≡ tasks_read o u
-        → (on_tasks o u v (λ p₁. on_middle (middle_from s p₁ (tasks_of n u)) u v λ cy k p₂. let w : PatternsRead = patterns_after s p₂ (counts_are e m n k cy) u v in on_patterns w.outcome u w.tables (counts_are e m n k cy))).outcome ≡ head.Of f at → HeadWent form s t v f at
+        → (on_tasks o u v (λ p₁. on_middle (middle_from s p₁ (tasks_of n u)) u v λ cy k p₂. let w : PatternsRead = patterns_after s p₂ (counts_are e m n k cy) u v in on_patterns w.outcome u w.tables (counts_are e m n k cy))).outcome ≡ head.Of f at → HeadWent s t v f at
     unfolding on_tasks
     by_tasks (outcome.At p₁) u b g = by_middle u p₁ b (middle_from s p₁ (tasks_of n u)) refl g
     by_tasks (outcome.Refused r) u b g = absurd (refused_head g)
 
-  pub head_went : (head_from form s t v).outcome ≡ head.Of f at → HeadWent form s t v f at
+  pub head_went : (head_from s t v).outcome ≡ head.Of f at → HeadWent s t v f at
   unfolding head_from on_opening
-  head_went g = by (opening_of form s) refl g
+  head_went g = by (opening_of s) refl g
     where
-      by : (o : Opening) → opening_of form s ≡ o
-          → (on_opening o t v (λ e n m p₀. let r : TasksRead = tasks_from s n 0 p₀ t in on_tasks r.outcome r.table v λ p₁. on_middle (middle_from s p₁ (tasks_of n r.table)) r.table v λ cy k p₂. let w : PatternsRead = patterns_after s p₂ (counts_are e m n k cy) r.table v in on_patterns w.outcome r.table w.tables (counts_are e m n k cy))).outcome ≡ head.Of f at → HeadWent form s t v f at
+      by : (o : Opening) → opening_of s ≡ o
+          → (on_opening o t v (λ e n m p₀. let r : TasksRead = tasks_from s n 0 p₀ t in on_tasks r.outcome r.table v λ p₁. on_middle (middle_from s p₁ (tasks_of n r.table)) r.table v λ cy k p₂. let w : PatternsRead = patterns_after s p₂ (counts_are e m n k cy) r.table v in on_patterns w.outcome r.table w.tables (counts_are e m n k cy))).outcome ≡ head.Of f at → HeadWent s t v f at
       by (opening.Of e n m p₀) a g = let r : TasksRead = tasks_from s n 0 p₀ t in by_tasks e n m p₀ a r.outcome r.table refl g
       by (opening.Refused r) a g = absurd (refused_head g)

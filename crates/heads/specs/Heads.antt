@@ -1,11 +1,10 @@
--- Rule R5.3: the head of a plan file, from its edition to its last pair. The forms differ in the edition's number only.
-use Rattle.std.specs.Prelude.{List, ℕ, ◌-◌, leb}
+-- Rule R5.3: the head of a plan file, from its edition to its last pair.
+use Rattle.std.specs.Prelude.{List, ℕ, leb}
 use Rattle.vocabulary.specs.Test.{pick}
 use Rattle.kinds.specs.declared.TaskSet.{TaskSet}
 use Rattle.kinds.specs.Build.{in_tables}
 use Rattle.kinds.specs.Limits.{task_counts, processor_counts, pattern_counts, most_links, no_key}
-use Rattle.kinds.specs.declared.Form.{Form}
-use Rattle.kinds.specs.Forms.{added, editions_in}
+use Rattle.kinds.specs.Editions.{editions}
 use Rattle.kinds.specs.Tasks.{Tasks, tasks_of}
 use Rattle.kinds.specs.declared.Counts.{Counts}
 use Rattle.kinds.specs.declared.Cycle.{Cycle}
@@ -25,13 +24,13 @@ use Rattle.heads.specs.declared.Head.TheVariants as head
 use Rattle.numbers.specs.Numbers.{got_at, and_then}
 use Rattle.heads.specs.Tables.{TasksRead, PatternTables, PatternRead, PatternsRead, tasks_from, progress, pattern_from, patterns_from}
 
--- edition, task count and m: 3 and 4 (rules R6.3, R6.4); the edition is its number in the file without what the form adds
-unfoldable pub opening_of : Form → List ℕ → Opening
-opening_of form s =
-    and_then opening.Refused (got_at s 0 (editions_in form) refusal.UnknownEdition) λ e p₁.
+-- edition, task count and m: 3 and 4 (rules R6.3, R6.4)
+unfoldable pub opening_of : List ℕ → Opening
+opening_of s =
+    and_then opening.Refused (got_at s 0 editions refusal.UnknownEdition) λ e p₁.
     and_then opening.Refused (got_at s p₁ task_counts (refusal.OutOfLimits p₁)) λ n p₂.
     and_then opening.Refused (got_at s p₂ processor_counts (refusal.OutOfLimits p₂)) λ m p₃.
-    opening.Of (e - added form) n m p₃
+    opening.Of e n m p₃
 
 -- after the tasks t rules R6.5 and R6.12: 5 before anything behind; then the pattern count
 unfoldable pub middle_from : List ℕ → ℕ → Tasks → Middle
@@ -77,9 +76,9 @@ pattern_after s done i f t v = pattern_from s f.edition (tasks_of f.tasks t) f.t
 abbrev pub patterns_after : List ℕ → ℕ → Counts → List ℕ → PatternTables → PatternsRead
 patterns_after s at f t v = patterns_from s f.edition (tasks_of f.tasks t) f.ticks f.patterns 0 (progress at no_key 0 0) v
 
-unfoldable pub head_from : Form → List ℕ → List ℕ → PatternTables → HeadRead
-head_from form s t v =
-    on_opening (opening_of form s) t v λ e n m p₀.
+unfoldable pub head_from : List ℕ → List ℕ → PatternTables → HeadRead
+head_from s t v =
+    on_opening (opening_of s) t v λ e n m p₀.
     let r : TasksRead = tasks_from s n 0 p₀ t in
     on_tasks r.outcome r.table v λ p₁.
     on_middle (middle_from s p₁ (tasks_of n r.table)) r.table v λ c k p₂.

@@ -2,7 +2,6 @@
 use Rattle.std.specs.Prelude.{◌≡◌, refl, List, ℕ, suc, ◌+◌, ◌-◌, ◌<◌, ◌≤◌, leb}
 use Rattle.std.proofs.Common.{arith}
 use Rattle.vocabulary.specs.Test.{pick}
-use Rattle.kinds.specs.declared.Form.{Form}
 use Rattle.kinds.specs.declared.Key.{Key}
 use Rattle.kinds.specs.declared.Spans.{Spans}
 use Rattle.kinds.specs.Limits.{no_key, after, most_links}
@@ -104,26 +103,26 @@ unfolding closing on_patterns
 closing_is (linked.At p l) t v f = refl
 closing_is (linked.Refused r) t v f = refl
 
-pub by_opening : (form : Form) (s : List ℕ) (t : List ℕ) (v : PatternTables) {o : Opening} {r : Refusal}
-    → o ≡ opening_of form s → o ≡ opening.Refused r → head_read (head.Refused r) t v ≡ head_from form s t v
+pub by_opening : (s : List ℕ) (t : List ℕ) (v : PatternTables) {o : Opening} {r : Refusal}
+    → o ≡ opening_of s → o ≡ opening.Refused r → head_read (head.Refused r) t v ≡ head_from s t v
 unfolding head_from on_opening
-by_opening form s t v a b = rw (← a, b)
+by_opening s t v a b = rw (← a, b)
 
-pub by_tasks : (form : Form) (s : List ℕ) (t u : List ℕ) (v : PatternTables) {o : Opening} {e n m p₀ : ℕ} {q : Outcome} {r : Refusal}
-    → o ≡ opening_of form s → o ≡ opening.Of e n m p₀ → tasks_read q u ≡ tasks_from s n 0 p₀ t → q ≡ outcome.Refused r
-    → head_read (head.Refused r) u v ≡ head_from form s t v
+pub by_tasks : (s : List ℕ) (t u : List ℕ) (v : PatternTables) {o : Opening} {e n m p₀ : ℕ} {q : Outcome} {r : Refusal}
+    → o ≡ opening_of s → o ≡ opening.Of e n m p₀ → tasks_read q u ≡ tasks_from s n 0 p₀ t → q ≡ outcome.Refused r
+    → head_read (head.Refused r) u v ≡ head_from s t v
 unfolding head_from on_opening on_tasks
-by_tasks form s t u v a b c d = rw (← a, b, ← c, d)
+by_tasks s t u v a b c d = rw (← a, b, ← c, d)
 
-pub by_middle : (form : Form) (s : List ℕ) (t u : List ℕ) (v : PatternTables) {o : Opening} {e n m p₀ p₁ : ℕ} {q : Outcome} {w : Middle} {r : Refusal}
-    → o ≡ opening_of form s → o ≡ opening.Of e n m p₀ → tasks_read q u ≡ tasks_from s n 0 p₀ t → q ≡ outcome.At p₁
-    → w ≡ middle_from s p₁ (tasks_of n u) → w ≡ middle.Refused r → head_read (head.Refused r) u v ≡ head_from form s t v
+pub by_middle : (s : List ℕ) (t u : List ℕ) (v : PatternTables) {o : Opening} {e n m p₀ p₁ : ℕ} {q : Outcome} {w : Middle} {r : Refusal}
+    → o ≡ opening_of s → o ≡ opening.Of e n m p₀ → tasks_read q u ≡ tasks_from s n 0 p₀ t → q ≡ outcome.At p₁
+    → w ≡ middle_from s p₁ (tasks_of n u) → w ≡ middle.Refused r → head_read (head.Refused r) u v ≡ head_from s t v
 unfolding head_from on_opening on_tasks on_middle
-by_middle form s t u v a b c d f g = rw (← a, b, ← c, d, ← f, g)
+by_middle s t u v a b c d f g = rw (← a, b, ← c, d, ← f, g)
 
-pub by_patterns : (form : Form) (s : List ℕ) (t u : List ℕ) (v x : PatternTables) {o : Opening} {e n m p₀ p₁ k p₂ : ℕ} {cy : Cycle} {q : Outcome} {w : Middle} {l : Linked} {z : Head}
-    → o ≡ opening_of form s → o ≡ opening.Of e n m p₀ → tasks_read q u ≡ tasks_from s n 0 p₀ t → q ≡ outcome.At p₁
+pub by_patterns : (s : List ℕ) (t u : List ℕ) (v x : PatternTables) {o : Opening} {e n m p₀ p₁ k p₂ : ℕ} {cy : Cycle} {q : Outcome} {w : Middle} {l : Linked} {z : Head}
+    → o ≡ opening_of s → o ≡ opening.Of e n m p₀ → tasks_read q u ≡ tasks_from s n 0 p₀ t → q ≡ outcome.At p₁
     → w ≡ middle_from s p₁ (tasks_of n u) → w ≡ middle.Of cy k p₂ → patterns_read l x ≡ patterns_after s p₂ (counts_are e m n k cy) u v
-    → z ≡ closing l (counts_are e m n k cy) → head_read z u x ≡ head_from form s t v
+    → z ≡ closing l (counts_are e m n k cy) → head_read z u x ≡ head_from s t v
 unfolding head_from on_opening on_tasks on_middle
-by_patterns form s t u v x {l = l} a b c d f g i j = rw (← a, b, ← c, d, ← f, g, ← i, j) (closing_is l u x _)
+by_patterns s t u v x {l = l} a b c d f g i j = rw (← a, b, ← c, d, ← f, g, ← i, j) (closing_is l u x _)

@@ -8,9 +8,7 @@ ghost use Rattle.heads.specs.Tables.{pattern_tables, pattern_read, patterns_read
 ghost use Rattle.heads.specs.Heads.{pattern_after, patterns_after, opening_of, middle_from, head_read, head_from};
 ghost use Rattle.heads.specs.LoopSteps.{closing};
 
-use kinds::{
-    Attributes, Counts, Cycle, Edition, Form, Headings, Key, Pairs, Pattern, Task, TaskSet,
-};
+use kinds::{Attributes, Counts, Cycle, Edition, Headings, Key, Pairs, Pattern, Task, TaskSet};
 use numbers::{Got, Refusal};
 
 // The limits of counts, as wide as the numbers of a file.
@@ -302,16 +300,15 @@ fn read_heading(file: &[u8], at: usize, low: Key, tasks: u32, used: usize) -> He
     }
 }
 
-// Edition, task count and processors, where the form adds to the edition's number.
-fn read_opening(file: &[u8], form: Form) -> Opening
-    ensures { result ≡ opening_of form file.now }
+// Edition, task count and processors.
+fn read_opening(file: &[u8]) -> Opening
+    ensures { result ≡ opening_of file.now }
 {
-    let added = form.added();
     match numbers::read_within(
         file,
         0,
-        added + Edition::FIRST,
-        added + Edition::LIMIT,
+        Edition::FIRST,
+        Edition::LIMIT,
         Refusal::UnknownEdition,
     ) {
         Got::Refused(r) => Opening::Refused(r),
@@ -331,7 +328,7 @@ fn read_opening(file: &[u8], form: Form) -> Opening
                 Refusal::OutOfLimits(p2),
             ) {
                 Got::Refused(r) => Opening::Refused(r),
-                Got::Value(m, p3) => Opening::Of(e - added, n, m, p3),
+                Got::Value(m, p3) => Opening::Of(e, n, m, p3),
             },
         },
     }
@@ -444,20 +441,19 @@ fn close_head(linked: Linked, f: Counts) -> Head
     }
 }
 
-// The head of a file of this form, from the edition to the last pair, into the tables that are lent, for a caller that puts no set together. The
-// attributes are cleared first: a table of this size is all that the cycle asks of its caller.
+// The head of a file, from the edition to the last pair, into the tables that are lent, for a caller that puts no set together. The attributes are
+// cleared first: a table of this size is all that the cycle asks of its caller.
 pub fn read_head(
     file: &[u8],
-    form: Form,
     attributes: &mut Attributes,
     headings: &mut Headings,
     pairs: &mut Pairs,
 ) -> Head
     ensures { head_read result attributes.new (pattern_tables headings.new pairs.new)
-        ≡ head_from form file.now no_attributes (pattern_tables headings.old pairs.old) }
+        ≡ head_from file.now no_attributes (pattern_tables headings.old pairs.old) }
 {
     *attributes = [0u32; 256];
-    match read_opening(file, form) {
+    match read_opening(file) {
         Opening::Refused(r) => Head::Refused(r),
         Opening::Of(e, n, m, p0) => {
             let tasks = n as usize;

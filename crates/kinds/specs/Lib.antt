@@ -1,6 +1,5 @@
 pub mod Limits
 pub mod Editions
-pub mod Forms
 pub mod Tasks
 pub mod Cycle
 pub mod Jobs

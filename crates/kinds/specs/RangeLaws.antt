@@ -1,5 +1,5 @@
 -- Laws of the ranges, of the cycle, and of what the functions over lent tables answer.
-use Rattle.std.specs.Prelude.{◌≡◌, refl, Bool, true, false, ◌&&◌, List, ℕ, zero, suc, ◌+◌, ◌*◌, ◌-◌, ◌/◌, ◌<◌, ◌≤◌, leb, ltb, get_or}
+use Rattle.std.specs.Prelude.{◌≡◌, refl, Bool, true, false, ◌&&◌, List, ℕ, zero, suc, ◌+◌, ◌*◌, ◌/◌, ◌<◌, ◌≤◌, leb, ltb, get_or}
 use Rattle.std.proofs.Common.{sym, ap, ◌∙◌, lt_of_lt_of_le, mul_comm, mul-le-mul, add-one, arith, ltb-true, leb-true, lt-ltb, le-ltb, le-leb}
 use Rattle.std.proofs.Math.Nat.{div-le_of_le-mul}
 use Rattle.std.proofs.lemmas.Bool.{lt-leb}
@@ -9,12 +9,9 @@ use Rattle.vocabulary.specs.Total.{total, total_none, total_more, total_up}
 use Rattle.vocabulary.specs.Multiple.{lcm, lcm_pos, lcm_le, lcm_of, lcm_of_more, lcm_of_up, lcm_of_pos}
 use Rattle.kinds.specs.declared.Key.{Key}
 use Rattle.kinds.specs.declared.Edition.{Edition}
-use Rattle.kinds.specs.declared.Form.{Form}
-use Rattle.kinds.specs.declared.Form.TheVariants as form
 use Rattle.kinds.specs.declared.Spans.{Spans}
 use Rattle.kinds.specs.Limits.{range, holds, periods, rises, after}
-use Rattle.kinds.specs.Editions.{over, editions, edition_of}
-use Rattle.kinds.specs.Forms.{added, number_in, editions_in}
+use Rattle.kinds.specs.Editions.{over, edition_of}
 use Rattle.kinds.specs.Tasks.{Tasks, period, pairs_in, first_in, second_in}
 use Rattle.kinds.specs.Cycle.{cycle, jobs, jobs_before, jobs_of, cycle_fits, multiple_of, periods_fit, ticks_of, no_cycle, cycle_of}
 use Rattle.kinds.specs.Links.{first_reach, spans_of}
@@ -60,23 +57,6 @@ rounds_low zero = omega arith
 rounds_low (suc zero) = omega arith
 rounds_low (suc (suc zero)) = omega arith
 rounds_low (suc (suc (suc e))) = omega arith
-
--- ---- forms
--- No form adds more than 16.
-pub added_low : (f : Form) → added f ≤ 16
-unfolding added
-added_low form.Grid = omega arith
-added_low form.Slices = omega arith
-
--- A known edition has one of the form's numbers,
-pub number_known : (f : Form) (e : ℕ) → holds editions e ≡ true → holds (editions_in f) (number_in f e) ≡ true
-number_known f e h = let w = holds_at 1 3 e h in holds_yes (added f + 1) (added f + 3) (added f + e) (omega arith) (omega arith)
-
--- and one of the form's numbers is that of a known edition, and has one byte.
-pub edition_known : (f : Form) (v : ℕ) → holds (editions_in f) v ≡ true → (holds editions (v - added f) ≡ true) × (number_in f (v - added f) ≡ v) × (v < 128)
-edition_known f v h =
-    let w = holds_at (added f + 1) (added f + 3) v h in
-    (holds_yes 1 3 (v - added f) (omega arith) (omega arith), omega arith, omega (arith, added_low f))
 
 -- ---- the pairs of the first n patterns
 pub pairs_none : (ns : List ℕ) → pairs_in ns 0 ≡ 0

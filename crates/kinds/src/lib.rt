@@ -6,7 +6,6 @@ ghost use Rattle.vocabulary.specs.Least.{all};
 ghost use Rattle.vocabulary.specs.Multiple.{lcm};
 ghost use Rattle.kinds.specs.Limits.{Range, range, holds, periods, rises};
 ghost use Rattle.kinds.specs.Editions.{edition_of};
-ghost use Rattle.kinds.specs.Forms.{added};
 ghost use Rattle.kinds.specs.Tasks.{Tasks, period, tasks_of, patterns_of, pairs_in, task_in, pattern_in, pair_in, view};
 ghost use Rattle.kinds.specs.Cycle.{multiple_of, ticks_of, cycle_of};
 ghost use Rattle.kinds.specs.Links.{spans_of, links_in};
@@ -61,13 +60,6 @@ pub struct Pair {
 #[derive(Drop)]
 pub struct Edition {
     pub rounds: u32,
-}
-
-// A form of plan files: its slots as a grid, or as slices.
-#[derive(Drop)]
-pub enum Form {
-    Grid,
-    Slices,
 }
 
 // The numbers of a set, without its tables: how many tasks and patterns it has, and the ticks and jobs of its cycle.
@@ -149,18 +141,6 @@ impl Edition {
             return Edition { rounds: 2 };
         }
         Edition { rounds: 0 }
-    }
-}
-
-impl Form {
-    // What this form adds to the number of an edition.
-    pub fn added(self) -> u32
-        ensures { result ≡ added self }
-    {
-        match self {
-            Form::Grid => 0,
-            Form::Slices => 16,
-        }
     }
 }
 

@@ -8,7 +8,7 @@ use Rattle.numbers.specs.declared.Got.{Got}
 use Rattle.numbers.specs.declared.Got.TheVariants as got
 
 -- Rules R6.1 to R6.9: the file ends too early, a number is badly formed, the edition is not known, a number is outside its limits, the cycle is too long,
--- a pattern or pair is out of range or order, there are too many links, a slot is too high, bytes are left over; R16.7: a slice breaks a rule.
+-- a pattern or pair is out of range or order, there are too many links, a slot is too high, bytes are left over.
 abbrev pub refusal_number : Refusal → ℕ
 refusal_number (refusal.Ends p) = 1
 refusal_number (refusal.Malformed p) = 2
@@ -19,7 +19,6 @@ refusal_number (refusal.Disordered p) = 6
 refusal_number (refusal.TooManyLinks p) = 9
 refusal_number (refusal.BadSlot p) = 7
 refusal_number (refusal.LeftOver p) = 8
-refusal_number (refusal.BadSlice p) = 19
 
 -- 1 shows the file length, 3 shows 0, 5 and 9 the place after the last task and the last pattern, 8 the first byte left over, the others the first
 -- byte of the number or slot.
@@ -33,7 +32,6 @@ refusal_evidence (refusal.Disordered p) = p ∷ []
 refusal_evidence (refusal.TooManyLinks p) = p ∷ []
 refusal_evidence (refusal.BadSlot p) = p ∷ []
 refusal_evidence (refusal.LeftOver p) = p ∷ []
-refusal_evidence (refusal.BadSlice p) = p ∷ []
 
 -- What stands at a place: 0 with the number and the place after it, or 1 or 2 as a reader would refuse it, in a file of that length.
 abbrev pub numeral_number : Number → ℕ

@@ -16,7 +16,6 @@ pub enum Refusal {
     TooManyLinks(usize),
     BadSlot(usize),
     LeftOver(usize),
-    BadSlice(usize),
 }
 
 // What stands at a place: a number and the place after it; the file ends before or inside it; it has not its shortest form.

@@ -11,7 +11,6 @@ use lib.Dec.{leb, ltb, eqb}
 use lib.ListN.{length, get_or}
 use Rattle.vocabulary.specs.Test.{pick, missed, both, clash}
 use Rattle.slots.specs.High.{high}
-use Rattle.kinds.specs.declared.Form.TheVariants.{Grid}
 use Rattle.kinds.specs.declared.TaskSet.{TaskSet}
 use Rattle.kinds.specs.Limits.{holds, task_counts}
 use Rattle.kinds.specs.Editions.{editions}
@@ -64,14 +63,14 @@ slots_read s (suc k) at n q l e =
 -- a file that is let through: its head was read, and its slots were
 record ReadWent (s : List ℕ) (p : ℕ) : Type 0 where
   shape : Counts
-  headed : (head_of Grid s).outcome ≡ head.Of shape p
-  set_is : (read_of s).set ≡ set_in (head_of Grid s) shape
+  headed : (head_of s).outcome ≡ head.Of shape p
+  set_is : (read_of s).set ≡ set_in (head_of s) shape
   last : ℕ
   slots : slots_from s (shape.processors * shape.ticks) p shape.tasks ≡ outcome.At last
 
 module _ (s : List ℕ) (p : ℕ) where
-  after_head : (f : Counts) (at : ℕ) → (head_of Grid s).outcome ≡ head.Of f at → (o : Outcome) → slots_from s (f.processors * f.ticks) at f.tasks ≡ o
-      → (on_slots o (loaded (outcome.At at) (set_in (head_of Grid s) f))).outcome ≡ outcome.At p → ReadWent s p
+  after_head : (f : Counts) (at : ℕ) → (head_of s).outcome ≡ head.Of f at → (o : Outcome) → slots_from s (f.processors * f.ticks) at f.tasks ≡ o
+      → (on_slots o (loaded (outcome.At at) (set_in (head_of s) f))).outcome ≡ outcome.At p → ReadWent s p
   unfolding read_of on_head on_slots
   after_head f at a (outcome.At q) b e =
       let z : at ≡ p = cc e in
@@ -86,9 +85,9 @@ module _ (s : List ℕ) (p : ℕ) where
 
   went : (read_of s).outcome ≡ outcome.At p → ReadWent s p
   unfolding read_of on_head
-  went e = by (head_of Grid s).outcome refl e
+  went e = by (head_of s).outcome refl e
     where
-      by : (o : Head) → (head_of Grid s).outcome ≡ o → (on_head s o (head_of Grid s).tasks (head_of Grid s).patterns).outcome ≡ outcome.At p → ReadWent s p
+      by : (o : Head) → (head_of s).outcome ≡ o → (on_head s o (head_of s).tasks (head_of s).patterns).outcome ≡ outcome.At p → ReadWent s p
       by (head.Of f at) a e = after_head f at a (slots_from s (f.processors * f.ticks) at f.tasks) refl e
       by (head.Refused r) a e = absurd (refused_at e)
 
@@ -101,14 +100,14 @@ some_slots t h e c =
     mul-pos (holds_at 1 9 t.processors m).0 (omega (arith, cycle_pos (view t).tasks))
 
 pub read_sound : (s : List ℕ) (p : ℕ) → (read_of s).outcome ≡ outcome.At p → sound (view (read_of s).set) ≡ true
-read_sound s p e = let w = went s p e in rw w.set_is (head_sound Grid s w.shape p w.headed).is_sound
+read_sound s p e = let w = went s p e in rw w.set_is (head_sound s w.shape p w.headed).is_sound
 
 slots_of_lem : (s : List ℕ) (p : ℕ) → (read_of s).outcome ≡ outcome.At p → SlotsRead s ((read_of s).set.processors * cycle (view (read_of s).set).tasks) p (read_of s).set.tasks
 slots_of_lem s p e =
     let w = went s p e in
     let f : Counts = w.shape in
-    let h = head_sound Grid s f p w.headed in
-    let set : TaskSet = set_in (head_of Grid s) f in
+    let h = head_sound s f p w.headed in
+    let set : TaskSet = set_in (head_of s) f in
     let g : SlotsRead s (f.processors * f.ticks) p f.tasks = from_some s (f.processors * f.ticks) p f.tasks w.last (some_slots set f.ticks h.is_sound h.ticks) w.slots in
     let r : SlotsRead s (set.processors * cycle (view set).tasks) p set.tasks = rw (← h.ticks) g in
     subst (λ (t : TaskSet). SlotsRead s (t.processors * cycle (view t).tasks) p t.tasks) (sym w.set_is) r
@@ -128,13 +127,13 @@ read_slots s p e = (slots_of_lem s p e).low
 -- Rule R4.12: entries beyond the counts are 0, whatever the file
 pub read_blank : (s : List ℕ) → Blank (read_of s).set
 unfolding read_of on_head on_slots
-read_blank s = by (head_of Grid s).outcome refl
+read_blank s = by (head_of s).outcome refl
   where
-    slots_by : (f : Counts) (at : ℕ) → (head_of Grid s).outcome ≡ head.Of f at → (o : Outcome) → Blank (on_slots o (loaded (outcome.At at) (set_in (head_of Grid s) f))).set
-    slots_by f at a (outcome.At q) = (head_sound Grid s f at a).blank
+    slots_by : (f : Counts) (at : ℕ) → (head_of s).outcome ≡ head.Of f at → (o : Outcome) → Blank (on_slots o (loaded (outcome.At at) (set_in (head_of s) f))).set
+    slots_by f at a (outcome.At q) = (head_sound s f at a).blank
     slots_by f at a (outcome.Refused r) = blank_none 0 0
 
-    by : (o : Head) → (head_of Grid s).outcome ≡ o → Blank (on_head s o (head_of Grid s).tasks (head_of Grid s).patterns).set
+    by : (o : Head) → (head_of s).outcome ≡ o → Blank (on_head s o (head_of s).tasks (head_of s).patterns).set
     by (head.Of f at) a = slots_by f at a (slots_from s (f.processors * f.ticks) at f.tasks)
     by (head.Refused r) a = blank_none 0 0
 
@@ -144,15 +143,15 @@ taking t = record { fits = true; set = t }
 
 pub taken_sound : (s : List ℕ) → (taken_of s).fits ≡ true → sound (view (taken_of s).set) ≡ true
 unfolding taken_of take_head
-taken_sound s e = by (head_of Grid s).outcome refl e
+taken_sound s e = by (head_of s).outcome refl e
   where
-    length_by : (f : Counts) (at : ℕ) → (head_of Grid s).outcome ≡ head.Of f at → (b : Bool) → (pick b (taking (set_in (head_of Grid s) f)) not_taken).fits ≡ true
-        → sound (view (pick b (taking (set_in (head_of Grid s) f)) not_taken).set) ≡ true
-    length_by f at a true e = (head_sound Grid s f at a).is_sound
+    length_by : (f : Counts) (at : ℕ) → (head_of s).outcome ≡ head.Of f at → (b : Bool) → (pick b (taking (set_in (head_of s) f)) not_taken).fits ≡ true
+        → sound (view (pick b (taking (set_in (head_of s) f)) not_taken).set) ≡ true
+    length_by f at a true e = (head_sound s f at a).is_sound
     length_by f at a false e = clash e refl
 
-    by : (o : Head) → (head_of Grid s).outcome ≡ o → (take_head s o (head_of Grid s).tasks (head_of Grid s).patterns).fits ≡ true
-        → sound (view (take_head s o (head_of Grid s).tasks (head_of Grid s).patterns).set) ≡ true
+    by : (o : Head) → (head_of s).outcome ≡ o → (take_head s o (head_of s).tasks (head_of s).patterns).fits ≡ true
+        → sound (view (take_head s o (head_of s).tasks (head_of s).patterns).set) ≡ true
     by (head.Of f at) a e = length_by f at a (eqb at (length s)) e
     by (head.Refused r) a e = clash e refl
 
@@ -163,26 +162,26 @@ none_sound = refl
 
 pub not_taken_lem : (s : List ℕ) → (taken_of s).fits ≡ false → taken_of s ≡ not_taken
 unfolding taken_of take_head
-not_taken_lem s e = by (head_of Grid s).outcome e
+not_taken_lem s e = by (head_of s).outcome e
   where
-    length_by : (f : Counts) (b : Bool) → (pick b (taking (set_in (head_of Grid s) f)) not_taken).fits ≡ false
-        → pick b (taking (set_in (head_of Grid s) f)) not_taken ≡ not_taken
+    length_by : (f : Counts) (b : Bool) → (pick b (taking (set_in (head_of s) f)) not_taken).fits ≡ false
+        → pick b (taking (set_in (head_of s) f)) not_taken ≡ not_taken
     length_by f true e = clash refl e
     length_by f false e = refl
 
-    by : (o : Head) → (take_head s o (head_of Grid s).tasks (head_of Grid s).patterns).fits ≡ false → take_head s o (head_of Grid s).tasks (head_of Grid s).patterns ≡ not_taken
+    by : (o : Head) → (take_head s o (head_of s).tasks (head_of s).patterns).fits ≡ false → take_head s o (head_of s).tasks (head_of s).patterns ≡ not_taken
     by (head.Of f at) e = length_by f (eqb at (length s)) e
     by (head.Refused r) e = refl
 
 pub taken_blank : (s : List ℕ) → Blank (taken_of s).set
 unfolding taken_of take_head
-taken_blank s = by (head_of Grid s).outcome refl
+taken_blank s = by (head_of s).outcome refl
   where
-    length_by : (f : Counts) (at : ℕ) → (head_of Grid s).outcome ≡ head.Of f at → (b : Bool) → Blank (pick b (taking (set_in (head_of Grid s) f)) not_taken).set
-    length_by f at a true = (head_sound Grid s f at a).blank
+    length_by : (f : Counts) (at : ℕ) → (head_of s).outcome ≡ head.Of f at → (b : Bool) → Blank (pick b (taking (set_in (head_of s) f)) not_taken).set
+    length_by f at a true = (head_sound s f at a).blank
     length_by f at a false = blank_none 0 0
 
-    by : (o : Head) → (head_of Grid s).outcome ≡ o → Blank (take_head s o (head_of Grid s).tasks (head_of Grid s).patterns).set
+    by : (o : Head) → (head_of s).outcome ≡ o → Blank (take_head s o (head_of s).tasks (head_of s).patterns).set
     by (head.Of f at) a = length_by f at a (eqb at (length s))
     by (head.Refused r) a = blank_none 0 0
 
@@ -193,14 +192,14 @@ pub record WholeHead (s : List ℕ) (f : Counts) (t : List ℕ) (v : PatternTabl
   pub ticks : f.ticks ≡ cycle (view (set_of f t v)).tasks
   pub jobs : f.jobs ≡ jobs (view (set_of f t v)).tasks
 
-module _ (s : List ℕ) (t : List ℕ) (v : PatternTables) {o : Head} {f : Counts} {at : ℕ} (read : head_read o t v ≡ head_of Grid s) (here : o ≡ head.Of f at) where
-  headed : head_read (head.Of f at) t v ≡ head_of Grid s
+module _ (s : List ℕ) (t : List ℕ) (v : PatternTables) {o : Head} {f : Counts} {at : ℕ} (read : head_read o t v ≡ head_of s) (here : o ≡ head.Of f at) where
+  headed : head_read (head.Of f at) t v ≡ head_of s
   headed = rw here at read
 
   pub whole_head : at ≡ length s → WholeHead s f t v
   unfolding taken_of take_head
   whole_head e =
-      let h : HeadSound (head_read (head.Of f at) t v) f = subst (λ (r : HeadRead). HeadSound r f) (sym headed) (head_sound Grid s f at (ap (λ (r : HeadRead). r.outcome) (sym headed))) in
+      let h : HeadSound (head_read (head.Of f at) t v) f = subst (λ (r : HeadRead). HeadSound r f) (sym headed) (head_sound s f at (ap (λ (r : HeadRead). r.outcome) (sym headed))) in
       record { taken = rw (← headed, eq-eqb at (length s) e); is_sound = h.is_sound; ticks = h.ticks; jobs = h.jobs }
 
   pub left_over : (at ≡ length s → ⊥) → taken_of s ≡ not_taken

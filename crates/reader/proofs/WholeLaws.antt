@@ -8,7 +8,6 @@ use borrow.Author.Tests.{eqb-true, eqb-false}
 use lib.Dec.{eqb}
 use lib.ListN.{length}
 use Rattle.vocabulary.specs.Test.{pick}
-use Rattle.kinds.specs.declared.Form.TheVariants.{Grid}
 use Rattle.kinds.specs.declared.Counts.{Counts}
 use Rattle.kinds.specs.Tasks.{view}
 use Rattle.kinds.specs.RangeLaws.{cycle_pos}
@@ -22,40 +21,40 @@ use Rattle.reader.specs.Files.{not_taken, take_head, taken_of, no_counts, WholeR
 use Rattle.reader.proofs.ReadLaws.{WholeHead, whole_head, left_over}
 
 module _ (s t : List ℕ) (v : PatternTables) {f : Counts} (read : whole_read f t v ≡ whole_from s no_pattern_tables) where
-  counts : f ≡ whole_counts (head_of Grid s).outcome (length s)
+  counts : f ≡ whole_counts (head_of s).outcome (length s)
   unfolding whole_from
   counts = ap (λ (r : WholeRead). r.counts) read
 
-  headed : (o : Head) → (head_of Grid s).outcome ≡ o → head_read o t v ≡ head_of Grid s
+  headed : (o : Head) → (head_of s).outcome ≡ o → head_read o t v ≡ head_of s
   unfolding whole_from
   headed o e =
-      let a : t ≡ (head_of Grid s).tasks = ap (λ (r : WholeRead). r.tasks) read in
-      let b : v ≡ (head_of Grid s).patterns = ap (λ (r : WholeRead). r.patterns) read in
+      let a : t ≡ (head_of s).tasks = ap (λ (r : WholeRead). r.tasks) read in
+      let b : v ≡ (head_of s).patterns = ap (λ (r : WholeRead). r.patterns) read in
       rw (← e, a, b)
 
   pub whole_none : f.ticks ≡ 0 → taken_of s ≡ not_taken
   unfolding whole_counts taken_of take_head
-  whole_none z = by (head_of Grid s).outcome refl counts
+  whole_none z = by (head_of s).outcome refl counts
     where
-      by_end : (g : Counts) (at : ℕ) → (head_of Grid s).outcome ≡ head.Of g at → (b : Bool) → eqb at (length s) ≡ b → f ≡ pick b g no_counts → taken_of s ≡ not_taken
+      by_end : (g : Counts) (at : ℕ) → (head_of s).outcome ≡ head.Of g at → (b : Bool) → eqb at (length s) ≡ b → f ≡ pick b g no_counts → taken_of s ≡ not_taken
       by_end g at e true q h =
           let w = whole_head s t v (headed (head.Of g at) e) refl (eqb-true at (length s) q) in
           absurd (omega (arith, z, ap (λ (c : Counts). c.ticks) h, w.ticks, cycle_pos (view (set_of g t v)).tasks))
       by_end g at e false q h = left_over s t v (headed (head.Of g at) e) refl (eqb-false at (length s) q)
 
-      by : (o : Head) → (head_of Grid s).outcome ≡ o → f ≡ whole_counts o (length s) → taken_of s ≡ not_taken
+      by : (o : Head) → (head_of s).outcome ≡ o → f ≡ whole_counts o (length s) → taken_of s ≡ not_taken
       by (head.Of g at) e h = by_end g at e (eqb at (length s)) refl h
       by (head.Refused r) e h = rw e
 
   pub whole_some : (f.ticks ≡ 0 → ⊥) → WholeHead s f t v
   unfolding whole_counts
-  whole_some z = by (head_of Grid s).outcome refl counts
+  whole_some z = by (head_of s).outcome refl counts
     where
-      by_end : (g : Counts) (at : ℕ) → (head_of Grid s).outcome ≡ head.Of g at → (b : Bool) → eqb at (length s) ≡ b → f ≡ pick b g no_counts → WholeHead s f t v
+      by_end : (g : Counts) (at : ℕ) → (head_of s).outcome ≡ head.Of g at → (b : Bool) → eqb at (length s) ≡ b → f ≡ pick b g no_counts → WholeHead s f t v
       by_end g at e true q h = subst (λ (c : Counts). WholeHead s c t v) (sym h) (whole_head s t v (headed (head.Of g at) e) refl (eqb-true at (length s) q))
       by_end g at e false q h = absurd (z (ap (λ (c : Counts). c.ticks) h))
 
-      by : (o : Head) → (head_of Grid s).outcome ≡ o → f ≡ whole_counts o (length s) → WholeHead s f t v
+      by : (o : Head) → (head_of s).outcome ≡ o → f ≡ whole_counts o (length s) → WholeHead s f t v
       by (head.Of g at) e h = by_end g at e (eqb at (length s)) refl h
       by (head.Refused r) e h = absurd (z (ap (λ (c : Counts). c.ticks) h))
 

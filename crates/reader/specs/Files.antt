@@ -1,7 +1,6 @@
--- A whole plan file in the grid form, which is a head, slots and the end, and the head alone.
+-- A whole plan file, which is a head, slots and the end, and the head alone.
 use Rattle.std.specs.Prelude.{true, false, List, ℕ, zero, suc, ◌+◌, ◌*◌, leb, ltb, eqb, length}
 use Rattle.vocabulary.specs.Test.{pick}
-use Rattle.kinds.specs.declared.Form.TheVariants.{Grid}
 use Rattle.kinds.specs.declared.TaskSet.{TaskSet}
 use Rattle.kinds.specs.declared.Counts.{Counts}
 use Rattle.kinds.specs.Build.{no_tasks}
@@ -13,7 +12,6 @@ use Rattle.heads.specs.declared.Outcome.TheVariants as outcome
 use Rattle.heads.specs.declared.Head.{Head}
 use Rattle.heads.specs.declared.Head.TheVariants as head
 use Rattle.reader.specs.declared.Loaded.{Loaded}
-use Rattle.reader.specs.declared.FileRead.{FileRead}
 use Rattle.reader.specs.declared.Taking.{Taking}
 use Rattle.heads.specs.Tables.{PatternTables, no_attributes, no_pattern_tables}
 use Rattle.heads.specs.Heads.{HeadRead, head_from, set_of}
@@ -56,18 +54,7 @@ on_head s (head.Refused r) t v = refused r
 
 -- and a file that is read its set and the place of its first slot.
 unfoldable pub read_of : List ℕ → Loaded
-read_of s = let r : HeadRead = head_from Grid s no_attributes no_pattern_tables in on_head s r.outcome r.tasks r.patterns
-
--- ---- what a file answers, with the numbers of its head alone, where no set is put together; zeros where the head is refused
-abbrev pub no_counts : Counts
-no_counts = record { edition = 0; processors = 0; tasks = 0; patterns = 0; ticks = 0; jobs = 0 }
-
-unfoldable pub head_counts : Head → Counts
-head_counts (head.Of f at) = f
-head_counts (head.Refused r) = no_counts
-
-unfoldable pub file_read : List ℕ → FileRead
-file_read s = record { outcome = (read_of s).outcome; counts = head_counts (head_from Grid s no_attributes no_pattern_tables).outcome }
+read_of s = let r : HeadRead = head_from s no_attributes no_pattern_tables in on_head s r.outcome r.tasks r.patterns
 
 -- ---- Rule R12.1: the head alone, as C passes tasks and m; bytes that are refused and bytes left over are not taken
 abbrev pub not_taken : Taking
@@ -82,7 +69,7 @@ take_head s (head.Of f at) t v = whole_of at (length s) (set_of f t v)
 take_head s (head.Refused r) t v = not_taken
 
 unfoldable pub taken_of : List ℕ → Taking
-taken_of s = let r : HeadRead = head_from Grid s no_attributes no_pattern_tables in take_head s r.outcome r.tasks r.patterns
+taken_of s = let r : HeadRead = head_from s no_attributes no_pattern_tables in take_head s r.outcome r.tasks r.patterns
 
 -- ---- the head alone, for a caller that lends tables: the numbers of a head that ends where the bytes do, else zeros; a head has at least one tick
 pub record WholeRead : Type 0 where
@@ -93,10 +80,13 @@ pub record WholeRead : Type 0 where
 abbrev pub whole_read : Counts → List ℕ → PatternTables → WholeRead
 whole_read f t v = record { counts = f; tasks = t; patterns = v }
 
+abbrev pub no_counts : Counts
+no_counts = record { edition = 0; processors = 0; tasks = 0; patterns = 0; ticks = 0; jobs = 0 }
+
 unfoldable pub whole_counts : Head → ℕ → Counts
 whole_counts (head.Of f at) len = pick (eqb at len) f no_counts
 whole_counts (head.Refused r) len = no_counts
 
 -- the tables are as the head leaves them, whole or not
 unfoldable pub whole_from : List ℕ → PatternTables → WholeRead
-whole_from s v = let r : HeadRead = head_from Grid s no_attributes v in whole_read (whole_counts r.outcome (length s)) r.tasks r.patterns
+whole_from s v = let r : HeadRead = head_from s no_attributes v in whole_read (whole_counts r.outcome (length s)) r.tasks r.patterns

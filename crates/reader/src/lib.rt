@@ -5,10 +5,10 @@ ghost use Rattle.numbers.specs.Answers.{refusal_number, refusal_evidence};
 ghost use Rattle.reader.specs.Answers.{number_of, evidence_of};
 ghost use Rattle.reader.specs.HighSlots.{high_from};
 ghost use Rattle.heads.specs.Tables.{pattern_tables};
-ghost use Rattle.reader.specs.Files.{ended_of, closed_of, whole_of, slots_from, refused, read_of, file_read, not_taken, taken_of, no_counts, whole_read, whole_from};
+ghost use Rattle.reader.specs.Files.{ended_of, closed_of, whole_of, slots_from, refused, read_of, not_taken, taken_of, no_counts, whole_read, whole_from};
 
 use heads::{Head, Outcome};
-use kinds::{Attributes, Counts, Form, Headings, Pairs, TaskSet};
+use kinds::{Attributes, Counts, Headings, Pairs, TaskSet};
 use numbers::Refusal;
 
 // The place of the first slot or the refusal, and the set, which a refusal leaves empty.
@@ -16,13 +16,6 @@ use numbers::Refusal;
 pub struct Loaded {
     pub outcome: Outcome,
     pub set: TaskSet,
-}
-
-// What a file answers, and the numbers of its head, which are zeros where the head is refused.
-#[derive(Drop)]
-pub struct FileRead {
-    pub outcome: Outcome,
-    pub counts: Counts,
 }
 
 // Whether bytes are a whole head and nothing more, and the set, which is empty where they are not.
@@ -84,7 +77,7 @@ fn slot_count(m: u32, h: u32) -> u64
 }
 
 // The answer to a file that is refused.
-pub fn refuse(r: Refusal) -> Loaded
+fn refuse(r: Refusal) -> Loaded
     ensures { result ≡ refused r }
 {
     let set = TaskSet::new(0, 0);
@@ -142,7 +135,7 @@ pub fn read(file: &[u8]) -> Loaded
     let mut attributes = [0u32; 256];
     let mut headings = [0u32; 192];
     let mut pairs = [0u16; 2048];
-    match heads::read_head(file, Form::Grid, &mut attributes, &mut headings, &mut pairs) {
+    match heads::read_head(file, &mut attributes, &mut headings, &mut pairs) {
         Head::Refused(r) => refuse(r),
         Head::Of(f, at) => {
             let set = TaskSet::of(f, attributes, headings, pairs);
@@ -151,31 +144,17 @@ pub fn read(file: &[u8]) -> Loaded
     }
 }
 
-// What the file answers, without the set, for a caller that needs no more than its numbers: the set is put together by `read`.
-pub fn read_file(file: &[u8]) -> FileRead
-    ensures { result ≡ file_read file.now }
+// What the file answers, without the set, for a caller that needs no more: it is put together by `read`.
+pub fn read_outcome(file: &[u8]) -> Outcome
+    ensures { result ≡ (read_of file.now).outcome }
 {
     let mut attributes = [0u32; 256];
     let mut headings = [0u32; 192];
     let mut pairs = [0u16; 2048];
-    match heads::read_head(file, Form::Grid, &mut attributes, &mut headings, &mut pairs) {
-        Head::Refused(r) => FileRead {
-            outcome: Outcome::Refused(r),
-            counts: no_counts(),
-        },
-        Head::Of(f, at) => FileRead {
-            outcome: end_file(file, at, f),
-            counts: f,
-        },
+    match heads::read_head(file, &mut attributes, &mut headings, &mut pairs) {
+        Head::Refused(r) => Outcome::Refused(r),
+        Head::Of(f, at) => end_file(file, at, f),
     }
-}
-
-// What the file answers.
-pub fn read_outcome(file: &[u8]) -> Outcome
-    ensures { result ≡ (read_of file.now).outcome }
-{
-    let r = read_file(file);
-    r.outcome
 }
 
 // The task set of bytes that are a head and nothing more.
@@ -185,13 +164,7 @@ pub fn take_head(bytes: &[u8]) -> Taking
     let mut attributes = [0u32; 256];
     let mut headings = [0u32; 192];
     let mut pairs = [0u16; 2048];
-    match heads::read_head(
-        bytes,
-        Form::Grid,
-        &mut attributes,
-        &mut headings,
-        &mut pairs,
-    ) {
+    match heads::read_head(bytes, &mut attributes, &mut headings, &mut pairs) {
         Head::Refused(_) => take_none(),
         Head::Of(f, at) => {
             let set = TaskSet::of(f, attributes, headings, pairs);
@@ -201,7 +174,7 @@ pub fn take_head(bytes: &[u8]) -> Taking
 }
 
 // The numbers of bytes that are no head, or more than one.
-pub fn no_counts() -> Counts
+fn no_counts() -> Counts
     ensures { result ≡ no_counts }
 {
     Counts {
@@ -224,7 +197,7 @@ pub fn read_whole(
     ensures { whole_read result attributes.new (pattern_tables headings.new pairs.new)
         ≡ whole_from bytes.now (pattern_tables headings.old pairs.old) }
 {
-    match heads::read_head(bytes, Form::Grid, attributes, headings, pairs) {
+    match heads::read_head(bytes, attributes, headings, pairs) {
         Head::Refused(_) => no_counts(),
         Head::Of(f, at) => {
             if at == bytes.len() {
@@ -248,7 +221,6 @@ fn refusal_number(r: Refusal) -> u32
         Refusal::TooManyLinks(_) => 9,
         Refusal::BadSlot(_) => 7,
         Refusal::LeftOver(_) => 8,
-        Refusal::BadSlice(_) => 19,
     }
 }
 
@@ -265,7 +237,6 @@ fn refusal_place(r: Refusal) -> usize
         Refusal::TooManyLinks(p) => p,
         Refusal::BadSlot(p) => p,
         Refusal::LeftOver(p) => p,
-        Refusal::BadSlice(p) => p,
     }
 }
 

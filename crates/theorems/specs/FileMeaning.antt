@@ -5,7 +5,6 @@ use Rattle.vocabulary.specs.Test.{pick, clash, lt_or_le}
 use Rattle.vocabulary.specs.Least.{some, none}
 use Rattle.vocabulary.specs.Keep.{Row}
 use Rattle.vocabulary.specs.Parts.{PartAt, part_whole}
-use Rattle.kinds.specs.declared.Form.TheVariants.{Grid}
 use Rattle.kinds.specs.declared.TaskSet.{TaskSet}
 use Rattle.kinds.specs.Tasks.{Set, view, pairs_in}
 use Rattle.kinds.specs.Cycle.{cycle}
@@ -57,7 +56,7 @@ pub record FileOf (file : List ℕ) (s : Set) (p : ℕ) : Type 0 where
   pub long : length slots ≡ s.processors * cycle s.tasks
   pub low : (e : ℕ) → e < length slots → get_or slots e 0 ≤ s.tasks.count
   pub is : file ≡ bytes_of s slots
-  pub place : p ≡ length (head_bytes Grid s)
+  pub place : p ≡ length (head_bytes s)
 
 -- ==== A byte string that is read is the file of the set that was read, with the place that was answered.
 pub read_is_file : (file : List ℕ) → Bytes file → (p : ℕ) → (read_of file).outcome ≡ outcome.At p → FileOf file (view (read_of file).set) p
@@ -83,7 +82,7 @@ set_same : {e m n k e' m' n' k' : ℕ} {xs hs ps xs' hs' ps' : List ℕ} → e �
     (record { edition = e'; processors = m'; tasks = n'; attributes = xs'; patterns = k'; headings = hs'; pairs = ps' })
 set_same a b c d e f g = rw (a, b, c, d, e, f, g)
 
-pub blank_same : (s t : TaskSet) → Blank s → Blank t → Agree (view s) (view t) → s ≡ t
+blank_same : (s t : TaskSet) → Blank s → Blank t → Agree (view s) (view t) → s ≡ t
 blank_same s t b d g =
     let pairs : pairs_in s.headings s.patterns ≡ pairs_in t.headings t.patterns =
     before_agree (view s) (view t) g s.patterns (omega arith) ∙ ap (pairs_in t.headings) g.pattern_count in
@@ -114,9 +113,9 @@ no_slot_high slots n low = none (high slots n) (length slots) (λ e l. le-ltb n 
 
 -- a file that was written, where out is what the buffer held: reading the written part gives the same set, in all that counts, and the same plan
 pub record ReadsBack (s : Set) (slots file : List ℕ) : Type 0 where
-  pub read : (read_of file).outcome ≡ outcome.At (length (head_bytes Grid s))
+  pub read : (read_of file).outcome ≡ outcome.At (length (head_bytes s))
   pub set : Agree s (view (read_of file).set)
-  pub plan : drop (length (head_bytes Grid s)) file ≡ slots
+  pub plan : drop (length (head_bytes s)) file ≡ slots
 
 left_file : (s : Set) (slots out : List ℕ) (n : ℕ) → written_of s slots (length out) ≡ written.Length n → take n (write_for s slots out).out ≡ bytes_of s slots
 unfolding write_for left_in
@@ -130,7 +129,7 @@ read_write s slots out n e =
     let w = answered s slots (length out) n e in
     let r = file_read_lem s slots w.is_sound w.long (λ j l. all_low slots s.tasks.count w.none_high j) in
     rw (left_file s slots out n e)
-    (record { read = r.0; set = r.1; plan = drop_at (head_bytes Grid s) slots (length (head_bytes Grid s)) refl })
+    (record { read = r.0; set = r.1; plan = drop_at (head_bytes s) slots (length (head_bytes s)) refl })
 
 -- ==== No file that is written has more bytes than one that is read: 52,868 always do.
 pub longest_written : (s : Set) (slots : List ℕ) (room n : ℕ) → written_of s slots room ≡ written.Length n → n ≤ 52868
@@ -169,28 +168,28 @@ module _ (file : List ℕ) (bytes : Bytes file) (p : ℕ) (e : (read_of file).ou
 -- bytes that are taken are a head that ends where they do
 record HeadTaken (tasks : List ℕ) : Type 0 where
   counts : Counts
-  is : (head_of Grid tasks).outcome ≡ head.Of counts (length tasks)
-  set : (taken_of tasks).set ≡ set_in (head_of Grid tasks) counts
+  is : (head_of tasks).outcome ≡ head.Of counts (length tasks)
+  set : (taken_of tasks).set ≡ set_in (head_of tasks) counts
 
 head_taken : (tasks : List ℕ) → (taken_of tasks).fits ≡ true → HeadTaken tasks
 unfolding taken_of take_head
-head_taken tasks e = by (head_of Grid tasks).outcome refl e
+head_taken tasks e = by (head_of tasks).outcome refl e
   where
-    ended : (f : Counts) (at : ℕ) → (head_of Grid tasks).outcome ≡ head.Of f at → (b : Bool) → eqb at (length tasks) ≡ b
-        → (pick b (taking (set_in (head_of Grid tasks) f)) not_taken).fits ≡ true → HeadTaken tasks
+    ended : (f : Counts) (at : ℕ) → (head_of tasks).outcome ≡ head.Of f at → (b : Bool) → eqb at (length tasks) ≡ b
+        → (pick b (taking (set_in (head_of tasks) f)) not_taken).fits ≡ true → HeadTaken tasks
     ended f at a true q h = let z : at ≡ length tasks = eqb-true at (length tasks) q in record { counts = f; is = rw z at a; set = rw (a, q) }
     ended f at a false q h = clash h refl
 
-    by : (o : Head) → (head_of Grid tasks).outcome ≡ o → (take_head tasks o (head_of Grid tasks).tasks (head_of Grid tasks).patterns).fits ≡ true → HeadTaken tasks
+    by : (o : Head) → (head_of tasks).outcome ≡ o → (take_head tasks o (head_of tasks).tasks (head_of tasks).patterns).fits ≡ true → HeadTaken tasks
     by (head.Of f at) a h = ended f at a (eqb at (length tasks)) refl h
     by (head.Refused r) a h = clash h refl
 
 -- ==== The tasks that C hands over are the head of their set, byte for byte,
-pub tasks_are_head : (tasks : List ℕ) → Bytes tasks → (taken_of tasks).fits ≡ true → head_bytes Grid (view (taken_of tasks).set) ≡ tasks
+pub tasks_are_head : (tasks : List ℕ) → Bytes tasks → (taken_of tasks).fits ≡ true → head_bytes (view (taken_of tasks).set) ≡ tasks
 tasks_are_head tasks bytes e =
     let t = head_taken tasks e in
-    let f = head_form Grid tasks bytes t.counts (length tasks) t.is in
-    rw t.set (sym (part_whole tasks (head_bytes Grid (view (set_in (head_of Grid tasks) t.counts))) f.1 f.0))
+    let f = head_form tasks bytes t.counts (length tasks) t.is in
+    rw t.set (sym (part_whole tasks (head_bytes (view (set_in (head_of tasks) t.counts))) f.1 f.0))
 
 -- so what is written for C is the tasks and, behind them, the plan.
 pub write_joins : (tasks plan out : List ℕ) (n : ℕ) → Bytes tasks → (taken_of tasks).fits ≡ true

@@ -5,7 +5,6 @@ use Rattle.std.proofs.Common.{mul-le-mul, arith, length-drop, get_or-drop}
 use borrow.Author.Tests.{eq-eqb}
 use Rattle.std.proofs.Math.ListN.{length, length-take}
 use Rattle.kinds.specs.declared.Counts.{Counts}
-use Rattle.kinds.specs.declared.Form.TheVariants.{Grid}
 use Rattle.kinds.specs.Tasks.{Set, view}
 use Rattle.kinds.specs.Cycle.{cycle}
 use Rattle.kinds.specs.Sound.{sound}
@@ -29,21 +28,21 @@ use Rattle.theorems.specs.HeadPlaces.{head_place}
 -- ---- a file whose first slot has place p: its head ends there
 pub record HeadedAt (file : List ℕ) (p : ℕ) : Type 0 where
   pub counts : Counts
-  pub is : (head_of Grid file).outcome ≡ head.Of counts p
-  pub set : (read_of file).set ≡ set_in (head_of Grid file) counts
+  pub is : (head_of file).outcome ≡ head.Of counts p
+  pub set : (read_of file).set ≡ set_in (head_of file) counts
 
 module _ (s : List ℕ) (p : ℕ) where
-  by_slots : (f : Counts) (at : ℕ) → (head_of Grid s).outcome ≡ head.Of f at → (o : Outcome) → slots_from s (f.processors * f.ticks) at f.tasks ≡ o
-      → (on_slots o (loaded (outcome.At at) (set_in (head_of Grid s) f))).outcome ≡ outcome.At p → HeadedAt s p
+  by_slots : (f : Counts) (at : ℕ) → (head_of s).outcome ≡ head.Of f at → (o : Outcome) → slots_from s (f.processors * f.ticks) at f.tasks ≡ o
+      → (on_slots o (loaded (outcome.At at) (set_in (head_of s) f))).outcome ≡ outcome.At p → HeadedAt s p
   unfolding read_of on_head on_slots
   by_slots f at a (outcome.At q) b e = let z : at ≡ p = cc e in record { counts = f; is = rw z at a; set = rw (a, b) }
   by_slots f at a (outcome.Refused r) b e = absurd (refused_at e)
 
   pub headed : (read_of s).outcome ≡ outcome.At p → HeadedAt s p
   unfolding read_of on_head
-  headed e = by (head_of Grid s).outcome refl e
+  headed e = by (head_of s).outcome refl e
     where
-      by : (o : Head) → (head_of Grid s).outcome ≡ o → (on_head s o (head_of Grid s).tasks (head_of Grid s).patterns).outcome ≡ outcome.At p → HeadedAt s p
+      by : (o : Head) → (head_of s).outcome ≡ o → (on_head s o (head_of s).tasks (head_of s).patterns).outcome ≡ outcome.At p → HeadedAt s p
       by (head.Of f at) a e = by_slots f at a (slots_from s (f.processors * f.ticks) at f.tasks) refl e
       by (head.Refused r) a e = absurd (refused_at e)
 
@@ -73,7 +72,7 @@ module _ (file : List ℕ) (p : ℕ) (e : (read_of file).outcome ≡ outcome.At 
   whole : HeadedAt file p → taken_of (take p file) ≡ taking (read_of file).set
   unfolding taken_of take_head
   whole w =
-      let a = head_place Grid file no_attributes no_pattern_tables w.counts p w.is in
+      let a = head_place file no_attributes no_pattern_tables w.counts p w.is in
       let l : p ≤ length file = a.within (omega arith) in
       let n : length (take p file) ≡ p = omega (arith, length-take p file) in
       rw (a.again (take p file) (same_part file p l), w.is, n, eq-eqb p p refl, w.set)
@@ -81,7 +80,7 @@ module _ (file : List ℕ) (p : ℕ) (e : (read_of file).outcome ≡ outcome.At 
   pub parts_at : TwoParts file p
   parts_at =
       let w = headed file p e in
-      let a = head_place Grid file no_attributes no_pattern_tables w.counts p w.is in
+      let a = head_place file no_attributes no_pattern_tables w.counts p w.is in
       let n = length-drop p file in
       let long : length file ≡ p + (set_of_file file).processors * cycle (set_of_file file).tasks = read_long file p e in
       record {
@@ -104,7 +103,6 @@ some_refusal (refusal.Disordered p) e = omega arith
 some_refusal (refusal.TooManyLinks p) e = omega arith
 some_refusal (refusal.BadSlot p) e = omega arith
 some_refusal (refusal.LeftOver p) e = omega arith
-some_refusal (refusal.BadSlice p) e = omega arith
 
 zero_reads : (o : Outcome) → number_of o ≡ 0 → o ≡ outcome.At (get_or (evidence_of o) 0 0)
 zero_reads (outcome.At p) e = refl

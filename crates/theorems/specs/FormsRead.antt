@@ -6,8 +6,6 @@ use Rattle.vocabulary.specs.Total.{total_none}
 use Rattle.vocabulary.specs.Table.{join}
 use Rattle.vocabulary.specs.Parts.{PartAt, part_first, part_front, part_back, part_move}
 use Rattle.kinds.specs.declared.Counts.{Counts}
-use Rattle.kinds.specs.declared.Form.{Form}
-use Rattle.kinds.specs.declared.Form.TheVariants.{Grid}
 use Rattle.kinds.specs.Limits.{pattern_counts, no_key}
 use Rattle.kinds.specs.Tasks.{Tasks, Patterns, Set, tasks_of, view}
 use Rattle.kinds.specs.Cycle.{cycle, cycle_fits, cycle_is}
@@ -34,13 +32,13 @@ use Rattle.theorems.specs.TablesRead.{Tests, tests, blank, TasksCome, tasks_read
 use Rattle.theorems.specs.PatternsRead.{join_none, Ahead, Come, PatternsCome, patterns_read_lem}
 
 -- ---- the head
--- a file whose head is read in a form as the set s, which ends where the bytes of s do
-pub record HeadReadAs (form : Form) (s : Set) (file : List ℕ) : Type 0 where
+-- a file whose head is read as the set s, which ends where the bytes of s do
+pub record HeadReadAs (s : Set) (file : List ℕ) : Type 0 where
   pub counts : Counts
-  pub is : (head_of form file).outcome ≡ head.Of counts (length (head_bytes form s))
-  pub agree : Agree s (view (set_in (head_of form file) counts))
+  pub is : (head_of file).outcome ≡ head.Of counts (length (head_bytes s))
+  pub agree : Agree s (view (set_in (head_of file) counts))
 
-module _ (form : Form) (s : Set) (ok : sound s ≡ true) (file : List ℕ) (part : PartAt file 0 (head_bytes form s)) where
+module _ (s : Set) (ok : sound s ≡ true) (file : List ℕ) (part : PartAt file 0 (head_bytes s)) where
   abbrev u : Tasks
   u = s.tasks
 
@@ -55,7 +53,7 @@ module _ (form : Form) (s : Set) (ok : sound s ≡ true) (file : List ℕ) (part
 
   -- the four parts, and their places
   abbrev o : List ℕ
-  o = opening_bytes form s
+  o = opening_bytes s
 
   abbrev ts : List ℕ
   ts = join (task_bytes u) u.count
@@ -73,7 +71,7 @@ module _ (form : Form) (s : Set) (ok : sound s ≡ true) (file : List ℕ) (part
   p₂ = p₁ + length c
 
   whole : PartAt file 0 (o ++ ts ++ c ++ ps)
-  whole = rw (head_bytes_lem form s) at part
+  whole = rw (head_bytes_lem s) at part
 
   to_count : PartAt file 0 (o ++ ts ++ c)
   to_count = part_front file 0 (o ++ ts ++ c) ps whole
@@ -92,8 +90,8 @@ module _ (form : Form) (s : Set) (ok : sound s ≡ true) (file : List ℕ) (part
       part_move file (0 + length (o ++ ts ++ c)) p₂ ps (omega (arith, length-append o ts, length-append (o ++ ts) c))
       (part_back file 0 (o ++ ts ++ c) ps whole)
 
-  ends : p₂ + length ps ≡ length (head_bytes form s)
-  ends = rw (head_bytes_lem form s) (omega (arith, length-append o ts, length-append (o ++ ts) c, length-append (o ++ ts ++ c) ps))
+  ends : p₂ + length ps ≡ length (head_bytes s)
+  ends = rw (head_bytes_lem s) (omega (arith, length-append o ts, length-append (o ++ ts) c, length-append (o ++ ts ++ c) ps))
 
   -- the tasks
   abbrev r : TasksRead
@@ -168,13 +166,13 @@ module _ (form : Form) (s : Set) (ok : sound s ≡ true) (file : List ℕ) (part
       patterns_read_lem file s.edition u v r.table (cycle read) p₂ found patterns_part v.count 0 (progress p₂ no_key 0 0) no_pattern_tables
       (omega arith) none_yet
 
-  head_is : head_of form file ≡ head_read (head.Of counts (length (head_bytes form s))) r.table w.tables
+  head_is : head_of file ≡ head_read (head.Of counts (length (head_bytes s))) r.table w.tables
   unfolding head_from on_opening on_tasks on_middle on_patterns
   head_is =
-      let begin = opening_read form file s.edition u.count s.processors kept.opening (part_front file 0 o ts to_tasks) in
+      let begin = opening_read file s.edition u.count s.processors kept.opening (part_front file 0 o ts to_tasks) in
       rw (begin, tasks_are.to, middle_is, patterns_are.to, kept.links, ends)
 
-  read_agree : Agree s (view (set_in (head_read (head.Of counts (length (head_bytes form s))) r.table w.tables) counts))
+  read_agree : Agree s (view (set_in (head_read (head.Of counts (length (head_bytes s))) r.table w.tables) counts))
   read_agree =
       record {
         edition = refl;
@@ -186,7 +184,7 @@ module _ (form : Form) (s : Set) (ok : sound s ≡ true) (file : List ℕ) (part
         pairs = λ x l. sym (patterns_are.pairs.same x l);
       }
 
-  read_as_lem : HeadReadAs form s file
+  read_as_lem : HeadReadAs s file
   read_as_lem =
       record {
         counts = counts;
@@ -194,9 +192,9 @@ module _ (form : Form) (s : Set) (ok : sound s ≡ true) (file : List ℕ) (part
         agree = subst (λ (x : HeadRead). Agree s (view (set_in x counts))) (sym head_is) read_agree;
       }
 
--- ==== The bytes of a sound set's head, in whichever form, are read in that form as that set, whatever stands behind them.
-pub head_read_lem : (form : Form) (s : Set) → sound s ≡ true → (file : List ℕ) → PartAt file 0 (head_bytes form s) → HeadReadAs form s file
-head_read_lem form s ok file part = read_as_lem form s ok file part
+-- ==== The bytes of a sound set's head are read as that set, whatever stands behind them.
+pub head_read_lem : (s : Set) → sound s ≡ true → (file : List ℕ) → PartAt file 0 (head_bytes s) → HeadReadAs s file
+head_read_lem s ok file part = read_as_lem s ok file part
 
 -- ---- slots that are all there, none too high, and nothing left over
 slots_read : (file : List ℕ) (n k at : ℕ) → at + k ≡ length file → ((j : ℕ) → at ≤ j → j < length file → get_or file j 0 ≤ n)
@@ -210,40 +208,40 @@ slots_read file n (suc k) at e low =
 module _ (s : Set) (slots : List ℕ) (ok : sound s ≡ true) (long : length slots ≡ s.processors * cycle s.tasks)
     (low : (e : ℕ) → e < length slots → get_or slots e 0 ≤ s.tasks.count) where
   abbrev file : List ℕ
-  file = head_bytes Grid s ++ slots
+  file = head_bytes s ++ slots
 
   abbrev begin : ℕ
-  begin = length (head_bytes Grid s)
+  begin = length (head_bytes s)
 
-  headed : HeadReadAs Grid s file
-  headed = head_read_lem Grid s ok file (part_first (head_bytes Grid s) slots)
+  headed : HeadReadAs s file
+  headed = head_read_lem s ok file (part_first (head_bytes s) slots)
 
   abbrev f : Counts
   f = headed.counts
 
   number : f.processors * f.ticks ≡ length slots
   number =
-      let t : f.ticks ≡ cycle s.tasks = (head_sound Grid file f begin headed.is).ticks ∙ sym (cycle_agree s _ headed.agree) in
+      let t : f.ticks ≡ cycle s.tasks = (head_sound file f begin headed.is).ticks ∙ sym (cycle_agree s _ headed.agree) in
       rw (t, ← headed.agree.processors) (sym long)
 
   slot_low : (j : ℕ) → begin ≤ j → j < length file → get_or file j 0 ≤ f.tasks
   slot_low j a b =
       let e : ℕ = j - begin in
       let z : begin + e ≡ j = omega arith in
-      let at : get_or file j 0 ≡ get_or slots e 0 = rw z at (get_or-append-add (head_bytes Grid s) slots e 0) in
-      omega (arith, at, low e (omega (arith, length-append (head_bytes Grid s) slots)), headed.agree.task_count)
+      let at : get_or file j 0 ≡ get_or slots e 0 = rw z at (get_or-append-add (head_bytes s) slots e 0) in
+      omega (arith, at, low e (omega (arith, length-append (head_bytes s) slots)), headed.agree.task_count)
 
   slots_are : slots_from file (f.processors * f.ticks) begin f.tasks ≡ outcome.At (length file)
-  slots_are = slots_read file f.tasks (f.processors * f.ticks) begin (omega (arith, number, length-append (head_bytes Grid s) slots)) slot_low
+  slots_are = slots_read file f.tasks (f.processors * f.ticks) begin (omega (arith, number, length-append (head_bytes s) slots)) slot_low
 
-  read_is : read_of file ≡ loaded (outcome.At begin) (set_in (head_of Grid file) f)
+  read_is : read_of file ≡ loaded (outcome.At begin) (set_in (head_of file) f)
   unfolding read_of on_head on_slots
   read_is = rw (headed.is, slots_are)
 
 -- ==== The file of a sound set and of as many slots as a cycle has, none above the task count, is read as that set.
 pub file_read_lem : (s : Set) (slots : List ℕ) → sound s ≡ true → length slots ≡ s.processors * cycle s.tasks
     → ((e : ℕ) → e < length slots → get_or slots e 0 ≤ s.tasks.count)
-    → ((read_of (bytes_of s slots)).outcome ≡ outcome.At (length (head_bytes Grid s))) × Agree s (view (read_of (bytes_of s slots)).set)
+    → ((read_of (bytes_of s slots)).outcome ≡ outcome.At (length (head_bytes s))) × Agree s (view (read_of (bytes_of s slots)).set)
 unfolding bytes_of
 file_read_lem s slots ok long low =
     let e = read_is s slots ok long low in

@@ -11,8 +11,6 @@ use Rattle.vocabulary.specs.Parts.{PartAt, part_both, part_whole}
 use Rattle.kinds.specs.declared.Key.{Key}
 use Rattle.kinds.specs.declared.Task.{Task}
 use Rattle.kinds.specs.declared.Counts.{Counts}
-use Rattle.kinds.specs.declared.Form.{Form}
-use Rattle.kinds.specs.declared.Form.TheVariants.{Grid}
 use Rattle.kinds.specs.Limits.{no_key, after}
 use Rattle.kinds.specs.Tasks.{Tasks, Patterns, Set, tasks_of, task_at, view, pairs_in, pair_count, first_in, second_in, put_task, put_pair}
 use Rattle.kinds.specs.Links.{links_in}
@@ -145,22 +143,22 @@ module _ (s : List ℕ) (bytes : Bytes s) (e h start : ℕ) (t : Tasks) (n : ℕ
       patterns_form k (i + 1) next v q l (omega arith) (omega (arith, pairs_more w.headings i)) g' (join_on s start (pattern_bytes P) i so_far here)
 
 -- ---- the head
-module _ (form : Form) (s : List ℕ) (bytes : Bytes s) (f : Counts) (at : ℕ) where
-  all_form : (w : HeadWent form s no_attributes no_pattern_tables f at)
-      → Fills s 0 (head_bytes form (view (set_of (counts_are w.e w.m w.n w.k w.cy) w.tasks w.patterns))) at
+module _ (s : List ℕ) (bytes : Bytes s) (f : Counts) (at : ℕ) where
+  all_form : (w : HeadWent s no_attributes no_pattern_tables f at)
+      → Fills s 0 (head_bytes (view (set_of (counts_are w.e w.m w.n w.k w.cy) w.tasks w.patterns))) at
   all_form w =
       let n : ℕ = w.n in
       let k : ℕ = w.k in
       let t : Tasks = tasks_of n w.tasks in
       let start : Progress = progress w.p₂ no_key 0 0 in
       let P : Patterns = patterns_in w.patterns k in
-      let few = opening_low form s w.e n w.m w.p₀ refl w.opened in
+      let few = opening_low s w.e n w.m w.p₀ refl w.opened in
       let low = middle_low s w.p₁ t w.cy k w.p₂ refl w.between in
       let done = tasks_all s n w.p₀ w.tasks w.p₁ few w.tasked in
       let kept : PatternsKept no_pattern_tables w.patterns 0 0 =
       subst (λ (r : PatternsRead). PatternsKept no_pattern_tables r.tables 0 0) w.patterned
       (patterns_kept s w.e t w.cy.ticks k 0 start no_pattern_tables at w.l (ap (λ (r : PatternsRead). r.outcome) w.patterned)) in
-      let a = opening_form s bytes form w.e n w.m w.p₀ w.opened in
+      let a = opening_form s bytes w.e n w.m w.p₀ w.opened in
       let b = tasks_form s bytes w.p₀ n w.tasks few done.row.long n 0 w.p₀ no_attributes w.p₁ (omega arith) w.tasked
       (join_from s w.p₀ (task_bytes t) (fills_within a)) in
       let c = middle_form s bytes w.p₁ t w.cy k w.p₂ w.between in
@@ -168,18 +166,18 @@ module _ (form : Form) (s : List ℕ) (bytes : Bytes s) (f : Counts) (at : ℕ) 
       (kept.headings.long ∙ (row_none 192).long) (kept.pairs.long ∙ (row_none 2048).long)
       k 0 start no_pattern_tables at w.l (omega arith) (sym (pairs_none w.patterns.headings)) w.patterned
       (join_from s w.p₂ (pattern_bytes P) (fills_within c)) in
-      rw (head_bytes_lem form (view (set_of (counts_are w.e w.m n k w.cy) w.tasks w.patterns))) (fills_both (fills_both (fills_both a b) c) d)
+      rw (head_bytes_lem (view (set_of (counts_are w.e w.m n k w.cy) w.tasks w.patterns))) (fills_both (fills_both (fills_both a b) c) d)
 
-  went_form : HeadWent form s no_attributes no_pattern_tables f at → Fills s 0 (head_bytes form (view (set_in (head_of form s) f))) at
+  went_form : HeadWent s no_attributes no_pattern_tables f at → Fills s 0 (head_bytes (view (set_in (head_of s) f))) at
   went_form w =
-      subst (λ (r : HeadRead). Fills s 0 (head_bytes form (view (set_in r f))) at) (sym w.is)
-      (subst (λ (g : Counts). Fills s 0 (head_bytes form (view (set_of g w.tasks w.patterns))) at) w.shape (all_form w))
+      subst (λ (r : HeadRead). Fills s 0 (head_bytes (view (set_in r f))) at) (sym w.is)
+      (subst (λ (g : Counts). Fills s 0 (head_bytes (view (set_of g w.tasks w.patterns))) at) w.shape (all_form w))
 
--- ==== Where a head is read from bytes, in whichever form, the bytes of its set in that form stand at the front, and end where the head does.
-pub head_form : (form : Form) (s : List ℕ) → Bytes s → (f : Counts) (at : ℕ) → (head_of form s).outcome ≡ head.Of f at
-    → PartAt s 0 (head_bytes form (view (set_in (head_of form s) f))) × (at ≡ length (head_bytes form (view (set_in (head_of form s) f))))
-head_form form s bytes f at e =
-    let w = went_form form s bytes f at (head_went form s no_attributes no_pattern_tables f at e) in
+-- ==== Where a head is read from bytes, the bytes of its set stand at the front, and end where the head does.
+pub head_form : (s : List ℕ) → Bytes s → (f : Counts) (at : ℕ) → (head_of s).outcome ≡ head.Of f at
+    → PartAt s 0 (head_bytes (view (set_in (head_of s) f))) × (at ≡ length (head_bytes (view (set_in (head_of s) f))))
+head_form s bytes f at e =
+    let w = went_form s bytes f at (head_went s no_attributes no_pattern_tables f at e) in
     (w.part, omega (arith, w.ends))
 
 -- ---- the file
@@ -195,10 +193,10 @@ part_rest s xs p e f =
 
 -- ==== A file of bytes that is read is the file of its set and of its slots.
 pub file_form : (s : List ℕ) → Bytes s → (p : ℕ) → (read_of s).outcome ≡ outcome.At p
-    → (p ≡ length (head_bytes Grid (view (read_of s).set))) × (s ≡ bytes_of (view (read_of s).set) (drop p s))
+    → (p ≡ length (head_bytes (view (read_of s).set))) × (s ≡ bytes_of (view (read_of s).set) (drop p s))
 unfolding bytes_of
 file_form s bytes p e =
     let w = headed s p e in
-    let f = head_form Grid s bytes w.counts p w.is in
-    let set : Set = view (set_in (head_of Grid s) w.counts) in
-    rw w.set (f.1, part_rest s (head_bytes Grid set) p f.1 f.0)
+    let f = head_form s bytes w.counts p w.is in
+    let set : Set = view (set_in (head_of s) w.counts) in
+    rw w.set (f.1, part_rest s (head_bytes set) p f.1 f.0)

@@ -4,18 +4,17 @@ use Rattle.std.proofs.Math.Path.{refl}
 use Rattle.std.proofs.Common.{sym, ap, ◌∙◌, arith}
 use borrow.Author.Tests.{leb-true}
 use Rattle.vocabulary.specs.Test.{pick, took, missed}
-use Rattle.kinds.specs.declared.Form.{Form}
 use Rattle.kinds.specs.declared.Key.{Key}
 use Rattle.kinds.specs.declared.Task.{Task}
 use Rattle.kinds.specs.declared.Cycle.{Cycle}
 use Rattle.kinds.specs.declared.Counts.{Counts}
 use Rattle.kinds.specs.Limits.{Range, range, task_counts, processor_counts, pattern_counts, periods, runnings, offsets, deadlines, most_pairs}
-use Rattle.kinds.specs.Forms.{added, editions_in}
+use Rattle.kinds.specs.Editions.{editions}
 use Rattle.kinds.specs.Limits.{no_key, after, first_range, second_range}
 use Rattle.kinds.specs.Tasks.{Tasks, task_of, tasks_of, put_task, put_pair}
 use Rattle.kinds.specs.Cycle.{cycle_fits, cycle_is}
 use Rattle.kinds.specs.Links.{links_in}
-use Rattle.kinds.specs.RangeLaws.{added_low, spans_low}
+use Rattle.kinds.specs.RangeLaws.{spans_low}
 use Rattle.numbers.specs.declared.Refusal.{Refusal}
 use Rattle.numbers.specs.declared.Refusal.TheVariants as refusal
 use Rattle.numbers.specs.declared.Got.TheVariants as got
@@ -92,11 +91,11 @@ module _ (s : List ℕ) (e n m q : ℕ) where
       then_place s p task_counts (refusal.OutOfLimits p) opening.Refused (λ t b. opening₂ a b t) (opening.Of e n m q) q 1 1 (λ f x. refused_opening x)
       (λ v p₂ g w. (g.read.one (omega (arith, g.in_range.1)), last₂ a v p₂ w))
 
-  opening_place : (form : Form) → opening_of form s ≡ opening.Of e n m q → ReadTo s 0 q 3 (opening_of form)
+  opening_place : opening_of s ≡ opening.Of e n m q → ReadTo s 0 q 3 opening_of
   unfolding opening_of
-  opening_place form =
-      then_place s 0 (editions_in form) refusal.UnknownEdition opening.Refused (λ t a. opening₁ (a - added form) t) (opening.Of e n m q) q 1 2
-      (λ f x. refused_opening x) (λ v p₁ g w. (g.read.one (omega (arith, g.in_range.1, added_low form)), last₁ (v - added form) p₁ w))
+  opening_place =
+      then_place s 0 editions refusal.UnknownEdition opening.Refused (λ t a. opening₁ a t) (opening.Of e n m q) q 1 2 (λ f x. refused_opening x)
+      (λ v p₁ g w. (g.read.one (omega (arith, g.in_range.1)), last₁ v p₁ w))
 
 -- ---- a task
 abbrev task₃ : ℕ → ℕ → ℕ → List ℕ → ℕ → TaskRead
@@ -254,13 +253,13 @@ middle_place s at t c k q e =
     record { rises = a.rises; within = a.within; ends = a.ends; again = λ x m. rw b.0 (a.again x m) }
 
 -- ---- the head
-module _ (form : Form) (s ts : List ℕ) (v : PatternTables) (f : Counts) (at : ℕ) where
-  head_by : HeadWent form s ts v f at → ReadTo s 0 at 4868 (λ x. head_from form x ts v)
+module _ (s ts : List ℕ) (v : PatternTables) (f : Counts) (at : ℕ) where
+  head_by : HeadWent s ts v f at → ReadTo s 0 at 4868 (λ x. head_from x ts v)
   unfolding head_from on_opening on_tasks on_middle on_patterns
   head_by w =
-      let few = opening_low form s w.e w.n w.m w.p₀ refl w.opened in
+      let few = opening_low s w.e w.n w.m w.p₀ refl w.opened in
       let low = middle_low s w.p₁ (tasks_of w.n w.tasks) w.cy w.k w.p₂ refl w.between in
-      let a = opening_place s w.e w.n w.m w.p₀ form w.opened in
+      let a = opening_place s w.e w.n w.m w.p₀ w.opened in
       let b = tasks_place s w.n 0 w.p₀ ts w.p₁ (ap (λ (x : TasksRead). x.outcome) w.tasked) in
       let c = middle_place s w.p₁ (tasks_of w.n w.tasks) w.cy w.k w.p₂ w.between in
       let d = patterns_place s w.e (tasks_of w.n w.tasks) w.cy.ticks few w.k 0 (progress w.p₂ no_key 0 0) v at w.l (omega arith)
@@ -281,6 +280,6 @@ module _ (form : Form) (s ts : List ℕ) (v : PatternTables) (f : Counts) (at : 
             );
       }
 
-  -- ==== A head, in whichever form, reaches at most 4,868 bytes, and every file with the same bytes up to there has the same head.
-  pub head_place : (head_from form s ts v).outcome ≡ head.Of f at → ReadTo s 0 at 4868 (λ x. head_from form x ts v)
-  head_place e = head_by (head_went form s ts v f at e)
+  -- ==== A head reaches at most 4,868 bytes, and every file with the same bytes up to there has the same head.
+  pub head_place : (head_from s ts v).outcome ≡ head.Of f at → ReadTo s 0 at 4868 (λ x. head_from x ts v)
+  head_place e = head_by (head_went s ts v f at e)

@@ -46,8 +46,4 @@ pub mod NumbersRead
 pub mod TablesRead
 pub mod PatternsRead
 pub mod FormsRead
-pub mod TwoForms
 pub mod FileMeaning
-pub mod SliceRows
-pub mod SliceMeaning
-pub mod LongestSlices

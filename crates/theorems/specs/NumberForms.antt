@@ -1,19 +1,17 @@
 -- Where the numbers of a head are read from bytes, their bytes stand there.
-use Rattle.std.specs.Prelude.{◌≡◌, true, List, [], ◌∷◌, ◌++◌, leb, eqb, length}
-use Rattle.std.proofs.Math.Path.{refl, sym, ap}
-use Rattle.std.proofs.Common.{◌∙◌, length-append}
-use Prim.Native.Nat.{ℕ, suc, ◌+◌, ◌-◌, ◌≤◌}
+use Rattle.std.specs.Prelude.{◌≡◌, List, [], ◌∷◌, ◌++◌, leb, eqb, length}
+use Rattle.std.proofs.Math.Path.{refl}
+use Rattle.std.proofs.Common.{ap, length-append}
+use Prim.Native.Nat.{ℕ, suc, ◌+◌, ◌≤◌}
 use native.Mathlib.Omega.{arith}
 use Rattle.vocabulary.specs.Test.{took, missed}
 use Rattle.vocabulary.specs.Table.{join}
 use Rattle.vocabulary.specs.Parts.{PartAt, part_none, part_move, part_both}
-use Rattle.kinds.specs.declared.Form.{Form}
 use Rattle.kinds.specs.declared.Key.{Key}
 use Rattle.kinds.specs.declared.Task.{Task}
 use Rattle.kinds.specs.declared.Cycle.{Cycle}
 use Rattle.kinds.specs.Limits.{Range, range, holds, task_counts, processor_counts, pattern_counts, periods, runnings, offsets, deadlines, most_pairs}
-use Rattle.kinds.specs.Forms.{added, number_in, editions_in}
-use Rattle.kinds.specs.RangeLaws.{edition_known}
+use Rattle.kinds.specs.Editions.{editions}
 use Rattle.kinds.specs.Limits.{first_range, second_range}
 use Rattle.kinds.specs.Tasks.{Tasks, task_of}
 use Rattle.kinds.specs.Cycle.{cycle_fits}
@@ -31,7 +29,7 @@ use Rattle.heads.specs.declared.Opening.TheVariants as opening
 use Rattle.heads.specs.declared.Middle.TheVariants as middle
 use Rattle.heads.specs.Tables.{times_from, task_from, two_at, count_from, heading_at}
 use Rattle.heads.specs.Heads.{opening_of, middle_from}
-use Rattle.heads.proofs.ReadInRange.{went, let_through, refused_value, refused_task, refused_two, refused_heading, refused_opening, refused_middle}
+use Rattle.heads.proofs.ReadInRange.{went, refused_value, refused_task, refused_two, refused_heading, refused_opening, refused_middle}
 use Rattle.writer.specs.Format.{numbers_of, bytes_in}
 use Rattle.writer.specs.FormatLaws.{bytes_more, bytes_one}
 
@@ -61,34 +59,29 @@ module _ (s : List ℕ) (at : ℕ) (f : ℕ → List ℕ) where
   join_on k a b = let z : k + 1 ≡ suc k = omega arith in rw z (fills_both a b)
 
 -- ---- numbers, one after another
-pub form_fills : {s : List ℕ} {at v next : ℕ} → FormAt s at v next → Fills s at (number_bytes v) next
+form_fills : {s : List ℕ} {at v next : ℕ} → FormAt s at v next → Fills s at (number_bytes v) next
 form_fills f = record { part = f.bytes; ends = f.ends }
 
-pub record NumbersAt (s : List ℕ) (at : ℕ) (vs : List ℕ) (next : ℕ) : Type 0 where
-  pub fills : Fills s at (bytes_in vs) next
+record NumbersAt (s : List ℕ) (at : ℕ) (vs : List ℕ) (next : ℕ) : Type 0 where
+  fills : Fills s at (bytes_in vs) next
 
-pub form_more : {s vs : List ℕ} {at v p q : ℕ} → FormAt s at v p → NumbersAt s p vs q → NumbersAt s at (v ∷ vs) q
+form_more : {s vs : List ℕ} {at v p q : ℕ} → FormAt s at v p → NumbersAt s p vs q → NumbersAt s at (v ∷ vs) q
 form_more {vs = vs} {v = v} f g = record { fills = rw (bytes_more v vs) (fills_both (form_fills f) g.fills) }
 
-pub form_last : {s : List ℕ} {at v q : ℕ} → FormAt s at v q → NumbersAt s at (v ∷ []) q
+form_last : {s : List ℕ} {at v q : ℕ} → FormAt s at v q → NumbersAt s at (v ∷ []) q
 form_last {v = v} f = record { fills = rw (bytes_one v) (form_fills f) }
 
 -- the same numbers, up to the same place
-pub numbers_are : {s vs ws : List ℕ} {at p q : ℕ} → vs ≡ ws → p ≡ q → NumbersAt s at vs p → Fills s at (bytes_in ws) q
+numbers_are : {s vs ws : List ℕ} {at p q : ℕ} → vs ≡ ws → p ≡ q → NumbersAt s at vs p → Fills s at (bytes_in ws) q
 numbers_are e f n = rw (e, f) at n.fills
-
--- equal numbers make equal lists
-pub three_same : {a b c x y z : ℕ} → a ≡ x → b ≡ y → c ≡ z → ◌≡◌ {A = List ℕ} (a ∷ b ∷ c ∷ []) (x ∷ y ∷ z ∷ [])
-three_same p q r = rw (p, q, r)
 
 -- ---- what is read
 -- a number was read, and reading went on
-pub record ReadOn {A : Type 0} (s : List ℕ) (at : ℕ) (r : Range) (k : ℕ → ℕ → A) (z : A) : Type 0 where
-  pub value : ℕ
-  pub next : ℕ
-  pub form : FormAt s at value next
-  pub in_range : holds r value ≡ true
-  pub on : k value next ≡ z
+record ReadOn {A : Type 0} (s : List ℕ) (at : ℕ) (k : ℕ → ℕ → A) (z : A) : Type 0 where
+  value : ℕ
+  next : ℕ
+  form : FormAt s at value next
+  on : k value next ≡ z
 
 module _ (s : List ℕ) (bytes : Bytes s) where
   got_form : (at : ℕ) (r : Range) (fault : Refusal) (v next : ℕ) → got_at s at r fault ≡ got.Value v next → FormAt s at v next
@@ -104,31 +97,21 @@ module _ (s : List ℕ) (bytes : Bytes s) where
           let y : b ≡ next = cc p.1 in
           read_form s bytes at v next (rw (x, y) at q)
 
-  pub read_on : {A : Type 0} (at : ℕ) (r : Range) (fault : Refusal) (refuse : Refusal → A) (k : ℕ → ℕ → A) (z : A) → ((f : Refusal) → refuse f ≡ z → ⊥)
-      → and_then refuse (got_at s at r fault) k ≡ z → ReadOn s at r k z
+  read_on : {A : Type 0} (at : ℕ) (r : Range) (fault : Refusal) (refuse : Refusal → A) (k : ℕ → ℕ → A) (z : A) → ((f : Refusal) → refuse f ≡ z → ⊥)
+      → and_then refuse (got_at s at r fault) k ≡ z → ReadOn s at k z
   read_on at r fault refuse k z never e =
       let i = went refuse (got_at s at r fault) k z never e in
-      record {
-        value = i.value;
-        next = i.next;
-        form = got_form at r fault i.value i.next i.is;
-        in_range = let_through _ _ _ _ _ _ i.is;
-        on = i.on;
-      }
+      record { value = i.value; next = i.next; form = got_form at r fault i.value i.next i.is; on = i.on }
 
   -- the numbers before the tasks
-  pub opening_form : (form : Form) (e n m q : ℕ) → opening_of form s ≡ opening.Of e n m q → Fills s 0 (bytes_in (number_in form e ∷ n ∷ m ∷ [])) q
+  pub opening_form : (e n m q : ℕ) → opening_of s ≡ opening.Of e n m q → Fills s 0 (bytes_in (e ∷ n ∷ m ∷ [])) q
   unfolding opening_of
-  opening_form form e n m q w =
+  opening_form e n m q w =
       let never : (r : Refusal) → opening.Refused r ≡ opening.Of e n m q → ⊥ = λ r x. refused_opening x in
-      let i = read_on 0 (editions_in form) refusal.UnknownEdition opening.Refused _ (opening.Of e n m q) never w in
+      let i = read_on 0 editions refusal.UnknownEdition opening.Refused _ (opening.Of e n m q) never w in
       let j = read_on i.next task_counts (refusal.OutOfLimits i.next) opening.Refused _ (opening.Of e n m q) never i.on in
       let k = read_on j.next processor_counts (refusal.OutOfLimits j.next) opening.Refused _ (opening.Of e n m q) never j.on in
-      let xe : i.value - added form ≡ e = cc k.on in
-      let xn : j.value ≡ n = cc k.on in
-      let xm : k.value ≡ m = cc k.on in
-      let number : i.value ≡ number_in form e = sym (edition_known form i.value i.in_range).1 ∙ ap (number_in form) xe in
-      numbers_are (three_same number xn xm) (cc k.on) (form_more i.form (form_more j.form (form_last k.form)))
+      numbers_are (cc k.on) (cc k.on) (form_more i.form (form_more j.form (form_last k.form)))
 
   -- a task
   pub task_form : (p : ℕ) (t : Task) (q : ℕ) → task_from s p ≡ taskRead.Task t q

@@ -1,5 +1,5 @@
 -- The bytes of numbers that stand in a file are read as these numbers: one number, a task, a pair, a pattern's heading and what stands before the tasks.
-use Rattle.std.specs.Prelude.{◌≡◌, true, ℕ, ◌+◌, ◌-◌, ◌<◌, ◌≤◌, eqb}
+use Rattle.std.specs.Prelude.{◌≡◌, true, ℕ, ◌+◌, ◌<◌, ◌≤◌, eqb}
 use Rattle.std.proofs.Common.{◌∙◌, length-append}
 use Rattle.std.proofs.Math.Bool.{not}
 use mathlib.Core.List.{List, [], ◌∷◌}
@@ -9,15 +9,13 @@ use Rattle.std.proofs.Math.ListN.{length}
 use borrow.Author.Tests.{not-true, leb-true}
 use Rattle.vocabulary.specs.Test.{pick, both}
 use Rattle.vocabulary.specs.Parts.{PartAt, part_front, part_back}
-use Rattle.kinds.specs.declared.Form.{Form}
 use Rattle.kinds.specs.declared.Key.{Key}
 use Rattle.kinds.specs.declared.Task.{Task}
 use Rattle.kinds.specs.Limits.{Range, range, holds, periods, runnings, offsets, deadlines, first_range, second_range, rises}
 use Rattle.kinds.specs.Limits.{task_counts, processor_counts, fewest_pairs}
 use Rattle.kinds.specs.Editions.{editions}
-use Rattle.kinds.specs.Forms.{added, number_in, editions_in}
 use Rattle.kinds.specs.Sound.{attributes_fit, heading_fits, opening_fits}
-use Rattle.kinds.specs.RangeLaws.{holds_yes, holds_at, added_low, number_known}
+use Rattle.kinds.specs.RangeLaws.{holds_yes, holds_at}
 use Rattle.numbers.specs.declared.Refusal.{Refusal}
 use Rattle.numbers.specs.declared.Refusal.TheVariants as refusal
 use Rattle.numbers.specs.declared.Got.TheVariants as got
@@ -44,16 +42,16 @@ got_at_lem file at r fault v h l p = rw (form_read file at v l p, h)
 
 -- ---- the first of some numbers, and those behind it
 module _ (file : List ℕ) (at v : ℕ) (vs : List ℕ) where
-  pub first : PartAt file at (bytes_in (v ∷ vs)) → PartAt file at (number_bytes v)
+  first : PartAt file at (bytes_in (v ∷ vs)) → PartAt file at (number_bytes v)
   first p = part_front file at (number_bytes v) (bytes_in vs) (rw (bytes_more v vs) at p)
 
-  pub rest : PartAt file at (bytes_in (v ∷ vs)) → PartAt file (past at v) (bytes_in vs)
+  rest : PartAt file at (bytes_in (v ∷ vs)) → PartAt file (past at v) (bytes_in vs)
   rest p = part_back file at (number_bytes v) (bytes_in vs) (rw (bytes_more v vs) at p)
 
-pub long : (at v : ℕ) (vs : List ℕ) → past at v + length (bytes_in vs) ≡ at + length (bytes_in (v ∷ vs))
+long : (at v : ℕ) (vs : List ℕ) → past at v + length (bytes_in vs) ≡ at + length (bytes_in (v ∷ vs))
 long at v vs = rw (bytes_more v vs) (omega (arith, length-append (number_bytes v) (bytes_in vs)))
 
-pub none : (at : ℕ) → at ≡ at + length (bytes_in [])
+none : (at : ℕ) → at ≡ at + length (bytes_in [])
 none at = rw bytes_none (omega arith)
 
 -- the place after two, three and four numbers
@@ -145,12 +143,8 @@ module _ (file : List ℕ) (at : ℕ) (low : Key) (n used x y c : ℕ) where
       )
 
 -- ---- what stands before the tasks
-module _ (form : Form) (file : List ℕ) (e n m : ℕ) where
-  abbrev v : ℕ
-  v = number_in form e
-
-  pub opening_read : opening_fits e n m ≡ true → PartAt file 0 (bytes_in (v ∷ n ∷ m ∷ []))
-      → opening_of form file ≡ opening.Of e n m (length (bytes_in (v ∷ n ∷ m ∷ [])))
+module _ (file : List ℕ) (e n m : ℕ) where
+  pub opening_read : opening_fits e n m ≡ true → PartAt file 0 (bytes_in (e ∷ n ∷ m ∷ [])) → opening_of file ≡ opening.Of e n m (length (bytes_in (e ∷ n ∷ m ∷ [])))
   unfolding opening_fits opening_of and_then
   opening_read h p =
       let w = both {a = holds editions e} h in
@@ -158,16 +152,13 @@ module _ (form : Form) (file : List ℕ) (e n m : ℕ) where
       let a = holds_at 1 3 e w.0 in
       let b = holds_at 1 65 n x.0 in
       let d = holds_at 1 9 m x.1 in
-      let q₁ : PartAt file (past 0 v) (bytes_in (n ∷ m ∷ [])) = rest file 0 v (n ∷ m ∷ []) p in
-      let q₂ : PartAt file (past (past 0 v) n) (bytes_in (m ∷ [])) = rest file (past 0 v) n (m ∷ []) q₁ in
-      let back : v - added form ≡ e = omega arith in
-      let z : past (past (past 0 v) n) m ≡ length (bytes_in (v ∷ n ∷ m ∷ [])) = after_three 0 v n m ∙ omega arith in
+      let q₁ : PartAt file (past 0 e) (bytes_in (n ∷ m ∷ [])) = rest file 0 e (n ∷ m ∷ []) p in
+      let q₂ : PartAt file (past (past 0 e) n) (bytes_in (m ∷ [])) = rest file (past 0 e) n (m ∷ []) q₁ in
+      let z : past (past (past 0 e) n) m ≡ length (bytes_in (e ∷ n ∷ m ∷ [])) = after_three 0 e n m ∙ omega arith in
       rw (
-        got_at_lem file 0 (editions_in form) refusal.UnknownEdition v (number_known form e w.0) (omega (arith, a.1, added_low form))
-            (first file 0 v (n ∷ m ∷ []) p),
-        got_at_lem file (past 0 v) task_counts (refusal.OutOfLimits (past 0 v)) n x.0 (omega (arith, b.1)) (first file (past 0 v) n (m ∷ []) q₁),
-        got_at_lem file (past (past 0 v) n) processor_counts (refusal.OutOfLimits (past (past 0 v) n)) m x.1 (omega (arith, d.1))
-            (first file (past (past 0 v) n) m [] q₂),
-        back,
+        got_at_lem file 0 editions refusal.UnknownEdition e w.0 (omega (arith, a.1)) (first file 0 e (n ∷ m ∷ []) p),
+        got_at_lem file (past 0 e) task_counts (refusal.OutOfLimits (past 0 e)) n x.0 (omega (arith, b.1)) (first file (past 0 e) n (m ∷ []) q₁),
+        got_at_lem file (past (past 0 e) n) processor_counts (refusal.OutOfLimits (past (past 0 e) n)) m x.1 (omega (arith, d.1))
+            (first file (past (past 0 e) n) m [] q₂),
         z,
       )

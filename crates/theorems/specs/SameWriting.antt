@@ -12,19 +12,19 @@ use Rattle.vocabulary.specs.Least.{least, some}
 use Rattle.vocabulary.specs.Table.{join}
 use Rattle.vocabulary.specs.Lists.{join_same}
 use Rattle.vocabulary.specs.Total.{total_up}
-use Rattle.kinds.specs.declared.Form.{Form}
-use Rattle.kinds.specs.declared.Form.TheVariants.{Grid}
-use Rattle.kinds.specs.Forms.{number_in}
 use Rattle.kinds.specs.Tasks.{Set, pair_count, pairs_before, pairs_in}
 use Rattle.kinds.proofs.PatternWalk.{before_more}
 use Rattle.kinds.proofs.WhatCounts.{Agree, before_agree, cycle_agree, sound_agree}
 use Rattle.slots.specs.High.{high}
 use Rattle.writer.specs.declared.Written.{Written}
 use Rattle.writer.specs.declared.Written.TheVariants as written
-use Rattle.writer.specs.Format.{task_numbers, pair_numbers, pattern_numbers, head_numbers, bytes_in, head_bytes, bytes_of}
+use Rattle.writer.specs.Format.{task_numbers, pair_numbers, pattern_numbers, head_numbers, head_bytes, bytes_of}
 use Rattle.writer.proofs.Turns.{two_same, four_same}
 use Rattle.writer.specs.Writing.{rules, written_of, write_for}
-use Rattle.theorems.specs.NumberForms.{three_same}
+
+-- equal numbers make equal lists
+three_same : {a b c x y z : ℕ} → a ≡ x → b ≡ y → c ≡ z → ◌≡◌ {A = List ℕ} (a ∷ b ∷ c ∷ []) (x ∷ y ∷ z ∷ [])
+three_same p q r = rw (p, q, r)
 
 module _ (s t : Set) (g : Agree s t) where
   task_same : (i : ℕ) → i < s.tasks.count → task_numbers s.tasks i ≡ task_numbers t.tasks i
@@ -58,26 +58,21 @@ module _ (s t : Set) (g : Agree s t) where
         (join_same (pair_numbers s.patterns k) (pair_numbers t.patterns k) (pair_count s.patterns k) pair_same
         ∙ ap (join (pair_numbers t.patterns k)) count_same)
 
-  same_numbers : (form : Form) → head_numbers form s ≡ head_numbers form t
+  same_numbers : head_numbers s ≡ head_numbers t
   unfolding head_numbers
-  same_numbers form =
+  same_numbers =
       ap₂ ◌++◌
       (ap₂ ◌++◌
-      (ap₂ ◌++◌ (three_same (ap (number_in form) g.edition) g.task_count g.processors)
+      (ap₂ ◌++◌ (three_same g.edition g.task_count g.processors)
       (join_same (task_numbers s.tasks) (task_numbers t.tasks) s.tasks.count task_same ∙ ap (join (task_numbers t.tasks)) g.task_count))
       (ap (λ (n : ℕ). n ∷ []) g.pattern_count))
       (join_same (pattern_numbers s.patterns) (pattern_numbers t.patterns) s.patterns.count pattern_same
       ∙ ap (join (pattern_numbers t.patterns)) g.pattern_count)
 
-  -- ==== Sets that agree on what counts have the same head, in whichever form,
-  pub same_head : (form : Form) → head_bytes form s ≡ head_bytes form t
-  unfolding head_bytes
-  same_head form = ap bytes_in (same_numbers form)
-
-  -- and the same file,
+  -- ==== Sets that agree on what counts have the same file,
   pub same_file : (slots : List ℕ) → bytes_of s slots ≡ bytes_of t slots
-  unfolding bytes_of
-  same_file slots = rw (same_head Grid)
+  unfolding bytes_of head_bytes
+  same_file slots = rw same_numbers
 
   same_answer : (slots : List ℕ) (room : ℕ) → written_of s slots room ≡ written_of t slots room
   unfolding written_of rules

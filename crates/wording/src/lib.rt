@@ -67,9 +67,6 @@ fn put_reason(line: Line, r: Refusal) -> Line {
         Refusal::TooManyLinks(_) => line.put(b" the cycle has over 4,096 links"),
         Refusal::BadSlot(_) => line.put(b" a slot is above the task count"),
         Refusal::LeftOver(_) => line.put(b" bytes are left over after the last slot"),
-        Refusal::BadSlice(_) => line.put(
-            b" a slice is out of the cycle, of no task or goes on with the last",
-        ),
     }
 }
 

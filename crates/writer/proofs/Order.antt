@@ -13,7 +13,6 @@ use Rattle.vocabulary.specs.Test.{missed}
 use Rattle.vocabulary.specs.First.{first_of}
 use Rattle.vocabulary.specs.Least.{least, some, some_lt, some_ge}
 use Rattle.kinds.specs.declared.Counts.{Counts}
-use Rattle.kinds.specs.declared.Form.TheVariants.{Grid}
 use Rattle.kinds.specs.Tasks.{Set, view}
 use Rattle.kinds.specs.Build.{lent_set}
 use Rattle.kinds.specs.Cycle.{cycle}
@@ -70,13 +69,13 @@ module _ (f : Counts) (xs hs ps slots : List ℕ) (room : ℕ) (c : CountsFound 
           ← e-is,
         )
 
-    module _ (none : length slots ≤ e) {h : ℕ} (h_is : h ≡ length (head_bytes Grid s)) where
+    module _ (none : length slots ≤ e) {h : ℕ} (h_is : h ≡ length (head_bytes s)) where
       abbrev n : ℕ
       n = h + length slots
 
       file_long : length (bytes_of s slots) ≡ n
       unfolding bytes_of
-      file_long = length-append (head_bytes Grid s) slots ∙ ap (λ (x : ℕ). x + length slots) (sym h_is)
+      file_long = length-append (head_bytes s) slots ∙ ap (λ (x : ℕ). x + length slots) (sym h_is)
 
       pub too_short : room < n → written.TooShort ≡ written_of s slots room
       unfolding written_of rules first_of
@@ -155,24 +154,24 @@ left_kept written.TooShort file out h = refl
 
 module _ (s : Set) (slots out : List ℕ) {r : Written} (e : r ≡ written_of s slots (length out)) where
   -- there is room for the head, and for the slots behind it
-  pub head_room : {n : ℕ} → r ≡ written.Length n → length (head_bytes Grid s) ≤ length out
+  pub head_room : {n : ℕ} → r ≡ written.Length n → length (head_bytes s) ≤ length out
   unfolding bytes_of
-  head_room {n} q = let w = answered s slots (length out) n (sym e ∙ q) in omega (arith, w.is, w.fits, length-append (head_bytes Grid s) slots)
+  head_room {n} q = let w = answered s slots (length out) n (sym e ∙ q) in omega (arith, w.is, w.fits, length-append (head_bytes s) slots)
 
-  pub slots_room : {n p : ℕ} {a : List ℕ} → r ≡ written.Length n → Wrote out 0 (head_bytes Grid s) a p → p + length slots ≤ length a
+  pub slots_room : {n p : ℕ} {a : List ℕ} → r ≡ written.Length n → Wrote out 0 (head_bytes s) a p → p + length slots ≤ length a
   unfolding bytes_of
   slots_room {n} q u =
       let w = answered s slots (length out) n (sym e ∙ q) in
-      omega (arith, w.is, w.fits, length-append (head_bytes Grid s) slots, u.ends, wrote_long u)
+      omega (arith, w.is, w.fits, length-append (head_bytes s) slots, u.ends, wrote_long u)
 
-  pub all_written : {n p : ℕ} {a b : List ℕ} → r ≡ written.Length n → Wrote out 0 (head_bytes Grid s) a p → Wrote a p slots b (p + length slots)
+  pub all_written : {n p : ℕ} {a b : List ℕ} → r ≡ written.Length n → Wrote out 0 (head_bytes s) a p → Wrote a p slots b (p + length slots)
       → write_leaves (written.Length n) b ≡ write_for s slots out
   unfolding write_for left_in bytes_of
   all_written {n} {p} {a} {b} q u v =
       let w = answered s slots (length out) n (sym e ∙ q) in
-      let z : 0 + length (head_bytes Grid s ++ slots) ≡ n = omega (arith, w.is) in
-      let i : b ≡ sets out 0 (head_bytes Grid s ++ slots) = (wrote_both u v).is in
-      rw (← e, q, i) (ap (write_leaves (written.Length n)) (sets-eq (head_bytes Grid s ++ slots) out 0 (omega (arith, w.is, w.fits)) ∙ rw z))
+      let z : 0 + length (head_bytes s ++ slots) ≡ n = omega (arith, w.is) in
+      let i : b ≡ sets out 0 (head_bytes s ++ slots) = (wrote_both u v).is in
+      rw (← e, q, i) (ap (write_leaves (written.Length n)) (sets-eq (head_bytes s ++ slots) out 0 (omega (arith, w.is, w.fits)) ∙ rw z))
 
   -- a refusal leaves the buffer
   pub kept : OneOf (1 ∷ 2 ∷ 3 ∷ 4 ∷ []) (tag_of own.the_type r) → write_leaves r out ≡ write_for s slots out

@@ -1,5 +1,5 @@
 -- A sound set's head by its parts: what they ask holds, and together they are the head.
-use mathlib.Core.Path.{◌≡◌, refl, sym, ap, ap₂, ◌∙◌}
+use mathlib.Core.Path.{◌≡◌, refl, sym, ap, ◌∙◌}
 use mathlib.Core.Bool.{true}
 use mathlib.Core.List.{List, [], ◌∷◌, ◌++◌}
 use Prim.Native.Nat.{ℕ, zero, suc, ◌+◌, ◌*◌, ◌/◌, ◌%◌, ◌<◌, ◌≤◌}
@@ -7,14 +7,13 @@ use native.Mathlib.Omega.{arith}
 use lib.ListN.{length, get_or, length-append}
 use Rattle.vocabulary.specs.Table.{join}
 use Rattle.kinds.specs.declared.Counts.{Counts}
-use Rattle.kinds.specs.declared.Form.TheVariants.{Grid}
 use Rattle.kinds.specs.Tasks.{Set}
 use Rattle.kinds.specs.Build.{lent_set, lent_patterns}
 use Rattle.kinds.specs.Sound.{sound}
 use Rattle.kinds.proofs.SoundFacts.{Sound, sound_facts}
 use Rattle.numbers.specs.Numbers.{number_bytes}
 use Rattle.writer.specs.Format.{task_numbers, bytes_in, head_bytes}
-use Rattle.writer.specs.FormatLaws.{bytes_join, pattern_bytes, grid_number, head_bytes_lem}
+use Rattle.writer.specs.FormatLaws.{bytes_join, pattern_bytes, head_bytes_lem}
 use Rattle.writer.specs.Lent.{part, PatternsLent}
 use Rattle.writer.specs.Wrote.{Wrote, wrote_both, wrote_long}
 use Rattle.writer.proofs.Widths.{width_one, three_long}
@@ -79,13 +78,13 @@ module _ (f : Counts) (xs hs ps : List ℕ) (ok : sound (lent_set f xs hs ps) �
   abbrev patterns : List ℕ
   patterns = join (pattern_bytes (lent_patterns f hs ps)) f.patterns
 
-  head_parts : head_bytes Grid s ≡ opening ++ tasks ++ number_bytes f.patterns ++ patterns
+  head_parts : head_bytes s ≡ opening ++ tasks ++ number_bytes f.patterns ++ patterns
   head_parts =
-      head_bytes_lem Grid s
-      ∙ ap₂ (λ (e : ℕ) (ys : List ℕ). bytes_in (e ∷ f.tasks ∷ f.processors ∷ []) ++ ys ++ number_bytes f.patterns ++ patterns)
-      (grid_number f.edition) (sym (bytes_join (task_numbers s.tasks) f.tasks) ∙ ap bytes_in (tasks_part xs f.tasks f.tasks))
+      head_bytes_lem s
+      ∙ ap (λ (ys : List ℕ). opening ++ ys ++ number_bytes f.patterns ++ patterns)
+      (sym (bytes_join (task_numbers s.tasks) f.tasks) ∙ ap bytes_in (tasks_part xs f.tasks f.tasks))
 
-  parts_long : length (head_bytes Grid s) ≡ length opening + length tasks + length (number_bytes f.patterns) + length patterns
+  parts_long : length (head_bytes s) ≡ length opening + length tasks + length (number_bytes f.patterns) + length patterns
   parts_long =
       omega (
         arith,
@@ -96,7 +95,7 @@ module _ (f : Counts) (xs hs ps : List ℕ) (ok : sound (lent_set f xs hs ps) �
       )
 
   -- edition, task count, m and pattern count have a byte each
-  pub head_long : {a b : ℕ} → a ≡ length tasks → b ≡ length patterns → 4 + a + b ≡ length (head_bytes Grid s)
+  pub head_long : {a b : ℕ} → a ≡ length tasks → b ≡ length patterns → 4 + a + b ≡ length (head_bytes s)
   head_long p q =
       omega (
         arith,
@@ -112,11 +111,11 @@ module _ (f : Counts) (xs hs ps : List ℕ) (ok : sound (lent_set f xs hs ps) �
 
   module _ (out : List ℕ) where
     pub head_wrote : {a b c d : List ℕ} {p q r t : ℕ} → Wrote out 0 opening a p → Wrote a p tasks b q → Wrote b q (number_bytes f.patterns) c r
-        → Wrote c r patterns d t → Wrote out 0 (head_bytes Grid s) d t
+        → Wrote c r patterns d t → Wrote out 0 (head_bytes s) d t
     head_wrote u v w x = rw head_parts (wrote_both (wrote_both (wrote_both u v) w) x)
 
     -- ---- there is room for each
-    module _ (room : length (head_bytes Grid s) ≤ length out) where
+    module _ (room : length (head_bytes s) ≤ length out) where
       pub opening_room : 0 + length opening ≤ length out
       opening_room = omega (arith, parts_long)
 

@@ -1,10 +1,7 @@
 -- Laws of the format: the bytes of numbers by parts, and a head by its parts.
 use Rattle.std.specs.Prelude.{◌≡◌, refl, List, [], ◌∷◌, ◌++◌, ℕ, zero, suc}
-use Rattle.std.proofs.Common.{sym, ap, ap₂, ◌∙◌, append_assoc, append-nil, arith}
+use Rattle.std.proofs.Common.{sym, ap, ap₂, ◌∙◌, append_assoc, append-nil}
 use Rattle.vocabulary.specs.Table.{join}
-use Rattle.kinds.specs.declared.Form.{Form}
-use Rattle.kinds.specs.declared.Form.TheVariants.{Grid}
-use Rattle.kinds.specs.Forms.{added, number_in}
 use Rattle.kinds.specs.Tasks.{Tasks, Patterns, Set, from_task, to_task, pair_count}
 use Rattle.numbers.specs.Numbers.{number_bytes}
 use Rattle.writer.specs.Format.{task_numbers, pair_numbers, pattern_numbers, head_numbers, bytes_in, head_bytes}
@@ -51,22 +48,17 @@ pattern_bytes_lem v k =
     bytes_both (from_task v k ∷ to_task v k ∷ pair_count v k ∷ []) (join (pair_numbers v k) (pair_count v k))
     ∙ ap (λ (xs : List ℕ). heading_bytes v k ++ xs) (bytes_join (pair_numbers v k) (pair_count v k))
 
--- In the grid form an edition's number is the edition.
-pub grid_number : (e : ℕ) → number_in Grid e ≡ e
-unfolding added
-grid_number e = omega arith
+abbrev pub opening_bytes : Set → List ℕ
+opening_bytes s = bytes_in (s.edition ∷ s.tasks.count ∷ s.processors ∷ [])
 
-abbrev pub opening_bytes : Form → Set → List ℕ
-opening_bytes form s = bytes_in (number_in form s.edition ∷ s.tasks.count ∷ s.processors ∷ [])
-
-pub head_bytes_lem : (form : Form) (s : Set) → head_bytes form s
-    ≡ opening_bytes form s
+pub head_bytes_lem : (s : Set) → head_bytes s
+    ≡ opening_bytes s
     ++ join (task_bytes s.tasks) s.tasks.count
     ++ number_bytes s.patterns.count
     ++ join (pattern_bytes s.patterns) s.patterns.count
 unfolding head_bytes head_numbers
-head_bytes_lem form s =
-    let o : List ℕ = number_in form s.edition ∷ s.tasks.count ∷ s.processors ∷ [] in
+head_bytes_lem s =
+    let o : List ℕ = s.edition ∷ s.tasks.count ∷ s.processors ∷ [] in
     let t : List ℕ = join (task_numbers s.tasks) s.tasks.count in
     let k : List ℕ = s.patterns.count ∷ [] in
     let p : List ℕ = join (pattern_numbers s.patterns) s.patterns.count in

@@ -1,7 +1,6 @@
 // A file's bytes, part after part. Each part is written from a place on, and answers the place after it.
 ghost use Rattle.std.specs.Prelude.{◌≡◌, true, [], ◌∷◌, ℕ, ◌+◌, ◌*◌, ◌<◌, ◌≤◌, length, get_or};
 ghost use Rattle.vocabulary.specs.Table.{join};
-ghost use Rattle.kinds.specs.declared.Form.TheVariants.{Grid};
 ghost use Rattle.kinds.specs.Tasks.{patterns_of};
 ghost use Rattle.kinds.specs.Build.{lent_set};
 ghost use Rattle.kinds.specs.Sound.{sound};
@@ -14,7 +13,7 @@ ghost use Rattle.writer.specs.Wrote.{Wrote};
 use kinds::{Attributes, Counts, Headings, Pairs, TaskSet};
 
 // A number, in its shortest form.
-pub(crate) fn emit_number(out: &mut [u8], at: usize, v: u32) -> usize
+fn emit_number(out: &mut [u8], at: usize, v: u32) -> usize
     requires { (v < 2097152) × (at + length (number_bytes v) ≤ length out.old) }
     ensures { Wrote out.old at (number_bytes v) out.new result }
 {
@@ -33,7 +32,7 @@ pub(crate) fn emit_number(out: &mut [u8], at: usize, v: u32) -> usize
 }
 
 // Three numbers.
-pub(crate) fn emit_three(out: &mut [u8], at: usize, a: u32, b: u32, c: u32) -> usize
+fn emit_three(out: &mut [u8], at: usize, a: u32, b: u32, c: u32) -> usize
     requires { (a < 2097152) × (b < 2097152) × (c < 2097152) × (at + length (bytes_in (a ∷ b ∷ c ∷ [])) ≤ length out.old) }
     ensures { Wrote out.old at (bytes_in (a ∷ b ∷ c ∷ [])) out.new result }
 {
@@ -103,8 +102,8 @@ pub(crate) fn emit_head(
     pairs: &Pairs,
 ) -> usize
     requires { (sound (lent_set f attributes.now headings.now pairs.now) ≡ true)
-        × (length (head_bytes Grid (lent_set f attributes.now headings.now pairs.now)) ≤ length out.old) }
-    ensures { Wrote out.old 0 (head_bytes Grid (lent_set f attributes.now headings.now pairs.now)) out.new result }
+        × (length (head_bytes (lent_set f attributes.now headings.now pairs.now)) ≤ length out.old) }
+    ensures { Wrote out.old 0 (head_bytes (lent_set f attributes.now headings.now pairs.now)) out.new result }
 {
     let p = emit_three(out, 0, f.edition, f.tasks as u32, f.processors);
     let q = emit_tasks(out, p, attributes, f.tasks);

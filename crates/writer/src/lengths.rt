@@ -1,7 +1,6 @@
 // How long a file is, before its first byte is written.
 ghost use Rattle.std.specs.Prelude.{◌≡◌, true, [], ◌∷◌, ◌+◌, ◌*◌, ◌≤◌, length};
 ghost use Rattle.vocabulary.specs.Table.{join};
-ghost use Rattle.kinds.specs.declared.Form.TheVariants.{Grid};
 ghost use Rattle.kinds.specs.Tasks.{patterns_of};
 ghost use Rattle.kinds.specs.Build.{lent_set};
 ghost use Rattle.kinds.specs.Sound.{sound};
@@ -13,7 +12,7 @@ ghost use Rattle.writer.specs.Lent.{part, PatternsLent};
 use kinds::{Attributes, Counts, Headings, Pairs, TaskSet};
 
 // How many bytes a number has.
-pub(crate) fn width(v: u32) -> usize
+fn width(v: u32) -> usize
     ensures { result ≡ length (number_bytes v) }
 {
     if v < 128 {
@@ -57,7 +56,7 @@ fn pairs_length(pairs: &Pairs, start: usize, n: usize) -> usize
 }
 
 // How many bytes three numbers have.
-pub(crate) fn three_length(a: u32, b: u32, c: u32) -> usize
+fn three_length(a: u32, b: u32, c: u32) -> usize
     ensures { result ≡ length (bytes_in (a ∷ b ∷ c ∷ [])) }
 {
     width(a) + width(b) + width(c)
@@ -89,7 +88,7 @@ pub(crate) fn head_length(
     pairs: &Pairs,
 ) -> usize
     requires { sound (lent_set f attributes.now headings.now pairs.now) ≡ true }
-    ensures { (result ≡ length (head_bytes Grid (lent_set f attributes.now headings.now pairs.now))) × (result ≤ 7492) }
+    ensures { (result ≡ length (head_bytes (lent_set f attributes.now headings.now pairs.now))) × (result ≤ 7492) }
 {
     4 + tasks_length(attributes, f.tasks) + patterns_length(headings, pairs, f.patterns)
 }

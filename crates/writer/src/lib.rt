@@ -10,7 +10,6 @@ use kinds::{Attributes, Counts, Headings, Pairs, TaskSet};
 
 mod bytes;
 mod lengths;
-pub mod puts;
 
 // What the writer did.
 #[derive(Drop)]

@@ -1,16 +1,27 @@
-use mathlib.Core.Path.{ap}
-use Rattle.reader.specs.declared.FileRead.{FileRead}
-use Rattle.reader.specs.Files.{file_read}
+use Rattle.reader.proofs.Ways.{answer-refused, answer-ended}
 use borrow.Author.Rules.{rules}
 use Rattle.reader.proofs.read_outcome.Statement.{statement}
 use Rattle.reader.proofs.read_outcome.Tie as tie
 
-read-file-requires : tie.Need-read-file-requires
-read-file-requires c κs = search rules
+read-head-requires : tie.Need-read-head-requires
+read-head-requires c κs = search rules
+
+enum-known-r : tie.Need-enum-known-r
+enum-known-r c = search rules
+
+enum-known-f : tie.Need-enum-known-f
+enum-known-f c = search rules
+
+end-file-requires : tie.Need-end-file-requires
+end-file-requires c κs = search rules
 
 returns : tie.Need-returns
-unfolding file_read
-returns c = ap (λ (r : FileRead). r.outcome) c.read-file.ensures
+returns c = answer-refused _ _ _ c.before.before.before.read_head.ensures c.before.r.given.1
+
+returns-2 : tie.Need-returns-2
+returns-2 c = answer-ended _ _ _ c.before.before.before.before.read_head.ensures c.before.before.f.given.1 c.end-file.ensures
 
 pub read-outcome-spec : {M : Type 1} → statement M
-read-outcome-spec = tie.close (tie.spec read-file-requires returns)
+read-outcome-spec =
+    tie.close
+    (tie.spec read-head-requires enum-known-r enum-known-f end-file-requires returns returns-2)
