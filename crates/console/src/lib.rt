@@ -1,4 +1,6 @@
 // What the programs share: the input that they are given, and lines of text.
+#![tactic(auto)]
+
 ghost use Rattle.std.specs.Prelude.{◌≡◌, length};
 ghost use Rattle.io.specs.Counts.{IsPrefixLen};
 ghost use Rattle.console.specs.Signed.{size_of};
@@ -7,14 +9,14 @@ ghost use Rattle.console.specs.Lines.{put_byte, put_first, Continues};
 use libc::STDOUT_FILENO;
 
 // Whether the input could be opened, and how many of its bytes stand at the start of the buffer.
-#[derive(Drop)]
+#[derive(Clone, Copy)]
 pub struct Input {
     pub open: bool,
     pub length: usize,
 }
 
 // A line of text, as far as it is made. It goes by value from one function that adds to it to the next.
-#[derive(Drop)]
+#[derive(Clone, Copy)]
 pub struct Line {
     text: [u8; 256],
     length: usize,

@@ -1,4 +1,6 @@
 // The dispatcher, which plays an accepted plan tick by tick.
+#![tactic(auto)]
+
 ghost use Rattle.std.specs.Prelude.{◌≡◌, true, false, ◌||◌, [], ℕ, ◌*◌, ◌<◌, ◌≤◌, length, get_or};
 ghost use Rattle.kinds.specs.Tasks.{tasks_of, view};
 ghost use Rattle.dispatcher.specs.Answers.{number_of, evidence_of};
@@ -19,7 +21,7 @@ mod leaves;
 mod marks;
 
 // Where the dispatcher stands: the tick of the cycle that comes next, whether the first cycle lasts, which tasks are done and which ran last.
-#[derive(Drop)]
+#[derive(Clone, Copy)]
 pub struct State {
     pub tick: u32,
     pub first: bool,
@@ -28,14 +30,14 @@ pub struct State {
 }
 
 // The judge's verdict, and the state to step from: a new one where the plan is accepted, else the one that came in.
-#[derive(Drop)]
+#[derive(Clone, Copy)]
 pub struct Started {
     pub verdict: Verdict,
     pub state: State,
 }
 
 // What a step did.
-#[derive(Drop)]
+#[derive(Clone, Copy)]
 pub enum Answer {
     Shown,
     BadSet,
@@ -47,14 +49,14 @@ pub enum Answer {
 }
 
 // The answer, and the next state; a refusal hands back the state that came in.
-#[derive(Drop)]
+#[derive(Clone, Copy)]
 pub struct Stepped {
     pub answer: Answer,
     pub state: State,
 }
 
 // What a step will do: its answer, and where the tick is shown, the next state and the row, in eight bytes; a refusal has blanks there.
-#[derive(Drop)]
+#[derive(Clone, Copy)]
 pub struct Look {
     pub answer: Answer,
     pub state: State,

@@ -1,4 +1,6 @@
 // Evidence by its place: number `which`, from 0 on, of one, two, three or five numbers; past the last it is 0.
+#![tactic(auto)]
+
 ghost use Rattle.std.specs.Prelude.{◌≡◌, [], ◌∷◌, get_or};
 
 pub fn one_of(which: u32, a: usize) -> usize

@@ -1,4 +1,6 @@
 // The calls for C. A slice is a pointer and a length there; include/flute.h has the declarations, with what each call refuses and writes.
+#![tactic(auto)]
+
 ghost use Rattle.std.specs.Prelude.{◌≡◌, ◌%◌};
 ghost use Rattle.judge.specs.Answers as judgeAnswers;
 ghost use Rattle.screen.specs.Answers as screenAnswers;

@@ -1,5 +1,7 @@
 // Adjusted releases and deadlines of a plan file's task set: the file that the first argument names, or standard input. The first line is the
 // number of the answer, its evidence and words; then comes a line a job: task, job, release, deadline.
+#![tactic(auto)]
+
 use console::Line;
 use heads::Outcome;
 use kinds::{Attributes, Cycle, TaskSet};

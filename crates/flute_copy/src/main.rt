@@ -1,6 +1,8 @@
 // Reads a plan file, the one that the first argument names or standard input, and writes it anew, to the file that the second argument names; without one
 // nothing is written. The first line is the number of the answer, the file's length and words, which say whether the bytes are the same. A file that is
 // refused gets the reader's line, and nothing is written.
+#![tactic(auto)]
+
 ghost use Rattle.std.specs.Prelude.{◌≡◌, true, ◌↔◌};
 
 use console::Line;

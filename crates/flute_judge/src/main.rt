@@ -1,4 +1,6 @@
 // Judges the plan of a plan file: the one that the first argument names, or standard input. Prints the number of the answer, its evidence and words.
+#![tactic(auto)]
+
 use heads::Outcome;
 use kinds::TaskSet;
 

@@ -1,6 +1,8 @@
 // Plays an accepted plan tick by tick: the plan file that the first argument names, or standard input. The first line is the judge's; then comes a line
 // a step, with its number and the bytes shown. The file that the second argument names holds the reports, eight bytes a step, lowest first; without
 // it one cycle is played with no reports.
+#![tactic(auto)]
+
 ghost use Rattle.std.specs.Prelude.{◌≡◌, ◌+◌, ◌<◌, ◌≤◌, length};
 ghost use Rattle.dispatcher.specs.Bytes.{number};
 

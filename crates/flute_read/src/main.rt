@@ -1,5 +1,7 @@
 // Reads a plan file: the one that the first argument names, or standard input. The first line is the number of the answer, its evidence and words; then come
 // the tasks and the patterns of a file that was read.
+#![tactic(auto)]
+
 use console::Line;
 use heads::Outcome;
 use kinds::{Headings, Pair, Pairs, Pattern, TaskSet};

@@ -1,4 +1,6 @@
 // Screens the task set of a plan file: the one that the first argument names, or standard input. Prints the number of the answer, its evidence and words.
+#![tactic(auto)]
+
 use console::Line;
 use heads::Outcome;
 use kinds::{Attributes, Cycle, TaskSet};

@@ -1,5 +1,7 @@
 // Shows a plan file to people: the one that the first argument names, or standard input. The first line is the reader's; then come the tasks, each with
 // its sign, and the cycle as a chart, a line a processor and a sign a tick.
+#![tactic(auto)]
+
 ghost use Rattle.std.specs.Prelude.{◌+◌, ◌<◌, ◌≤◌, length};
 
 use console::Line;

@@ -1,4 +1,6 @@
 // The head of a plan file, from the edition to the last pair.
+#![tactic(auto)]
+
 ghost use Rattle.std.specs.Prelude.{◌≡◌, true, ◌+◌, ◌*◌, ◌<◌, ◌≤◌};
 ghost use Rattle.kinds.specs.Limits.{no_key};
 ghost use Rattle.kinds.specs.Cycle.{periods_fit};
@@ -18,35 +20,35 @@ const TASK_LIMIT: u32 = TaskSet::TASK_LIMIT as u32;
 
 const PATTERN_LIMIT: u32 = TaskSet::PATTERN_LIMIT as u32;
 
-#[derive(Drop)]
+#[derive(Clone, Copy)]
 pub enum TaskRead {
     Task(Task, usize),
     Refused(Refusal),
 }
 
 // Two numbers in order, and the place after them.
-#[derive(Drop)]
+#[derive(Clone, Copy)]
 pub enum Two {
     Both(u32, u32, usize),
     Refused(Refusal),
 }
 
 // What stands before a pattern's pairs: its two tasks, its pair count and the place after it.
-#[derive(Drop)]
+#[derive(Clone, Copy)]
 pub enum Heading {
     Of(u32, u32, u32, usize),
     Refused(Refusal),
 }
 
 // Where reading went on to.
-#[derive(Drop)]
+#[derive(Clone, Copy)]
 pub enum Outcome {
     At(usize),
     Refused(Refusal),
 }
 
 // How far the patterns are read: the place after them, the lowest two tasks that may come next, and the pairs and the links so far.
-#[derive(Drop)]
+#[derive(Clone, Copy)]
 pub struct Progress {
     pub at: usize,
     pub low: Key,
@@ -55,34 +57,34 @@ pub struct Progress {
 }
 
 // How far the patterns are read after one more.
-#[derive(Drop)]
+#[derive(Clone, Copy)]
 pub enum Reached {
     To(Progress),
     Refused(Refusal),
 }
 
 // Where the patterns end, and how many links they make.
-#[derive(Drop)]
+#[derive(Clone, Copy)]
 pub enum Linked {
     At(usize, u64),
     Refused(Refusal),
 }
 
 // Edition, task count and processors, and the place after them.
-#[derive(Drop)]
+#[derive(Clone, Copy)]
 pub enum Opening {
     Of(u32, u32, u32, usize),
     Refused(Refusal),
 }
 
 // What stands between the tasks and the patterns: the cycle, the pattern count and the place after it.
-#[derive(Drop)]
+#[derive(Clone, Copy)]
 pub enum Middle {
     Of(Cycle, u32, usize),
     Refused(Refusal),
 }
 
-#[derive(Drop)]
+#[derive(Clone, Copy)]
 pub enum Head {
     Of(Counts, usize),
     Refused(Refusal),

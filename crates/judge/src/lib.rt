@@ -1,4 +1,6 @@
 // The judge of plans.
+#![tactic(auto)]
+
 ghost use Rattle.std.specs.Prelude.{get_or, ◌≡◌, ◌*◌, ◌<◌, ◌≤◌};
 ghost use Rattle.vocabulary.specs.Tally.{Fresh};
 ghost use Rattle.kinds.specs.Tasks.{Tasks, view};
@@ -26,7 +28,7 @@ mod twice;
 mod walk;
 
 // The first rule that a plan breaks, with where it does, or that it breaks none.
-#[derive(Drop)]
+#[derive(Clone, Copy)]
 pub enum Verdict {
     Accepted,
     BadSet,
@@ -44,7 +46,7 @@ pub enum Verdict {
 }
 
 // A task's jobs in the table of a cycle: the number of the first, how many there are, and the task.
-#[derive(Drop)]
+#[derive(Clone, Copy)]
 struct Lane {
     base: u32,
     jobs: u32,
@@ -52,7 +54,7 @@ struct Lane {
 }
 
 // What a job gets: how many ticks in its window, the first and the last of them in true time; without ticks, its release for both.
-#[derive(Drop)]
+#[derive(Clone, Copy)]
 struct JobTicks {
     count: u32,
     first: u64,
@@ -61,7 +63,7 @@ struct JobTicks {
 
 // How a pattern's links step through the jobs: its two tasks' jobs, how many jobs of each lie from a link to the next, and how many links a pair makes in
 // a cycle.
-#[derive(Drop)]
+#[derive(Clone, Copy)]
 struct LinkSteps {
     from: Lane,
     to: Lane,

@@ -1,4 +1,6 @@
 // The task set by value, its limits and its constructors; rule 10; the cycle, its jobs and its links.
+#![tactic(auto)]
+
 ghost use Rattle.std.specs.Prelude.{◌≡◌, Bool, true, false, ℕ, ◌+◌, ◌*◌, ◌/◌, ◌<◌, ◌≤◌, eqb};
 ghost use Rattle.vocabulary.specs.Test.{pick};
 ghost use Rattle.vocabulary.specs.Total.{total};
@@ -21,7 +23,7 @@ pub type Headings = [u32; 192];
 pub type Pairs = [u16; 2048];
 
 // A task set: how many tasks and patterns it has, and its tables.
-#[derive(Drop)]
+#[derive(Clone, Copy)]
 pub struct TaskSet {
     pub edition: u32,
     pub processors: u32,
@@ -33,7 +35,7 @@ pub struct TaskSet {
 }
 
 // T, C, O and D of one task.
-#[derive(Drop)]
+#[derive(Clone, Copy)]
 pub struct Task {
     pub period: u32,
     pub running: u32,
@@ -42,7 +44,7 @@ pub struct Task {
 }
 
 // The two tasks of a pattern, and how many pairs it has.
-#[derive(Drop)]
+#[derive(Clone, Copy)]
 pub struct Pattern {
     pub from: u32,
     pub to: u32,
@@ -50,20 +52,20 @@ pub struct Pattern {
 }
 
 // The two numbers of a pair.
-#[derive(Drop)]
+#[derive(Clone, Copy)]
 pub struct Pair {
     pub first: u32,
     pub second: u32,
 }
 
 // An edition of plan files: over how many rounds of its pattern the second number of a pair may reach.
-#[derive(Drop)]
+#[derive(Clone, Copy)]
 pub struct Edition {
     pub rounds: u32,
 }
 
 // The numbers of a set, without its tables: how many tasks and patterns it has, and the ticks and jobs of its cycle.
-#[derive(Drop)]
+#[derive(Clone, Copy)]
 pub struct Counts {
     pub edition: u32,
     pub processors: u32,
@@ -74,21 +76,21 @@ pub struct Counts {
 }
 
 // The lowest two numbers that may come next in a rising row of pairs.
-#[derive(Drop)]
+#[derive(Clone, Copy)]
 pub struct Key {
     pub first: u32,
     pub second: u32,
 }
 
 // A cycle's length and how many jobs it has; 0 for both: none within the limits.
-#[derive(Drop)]
+#[derive(Clone, Copy)]
 pub struct Cycle {
     pub ticks: u32,
     pub jobs: u32,
 }
 
 // Two periods' common multiple, and how far the two numbers of a pair may go.
-#[derive(Drop)]
+#[derive(Clone, Copy)]
 pub struct Spans {
     pub whole: u32,
     pub first: u32,
@@ -96,7 +98,7 @@ pub struct Spans {
 }
 
 // Whether a pattern, or all of them, are in order, and how many links they make then.
-#[derive(Drop)]
+#[derive(Clone, Copy)]
 pub struct Tested {
     pub fits: bool,
     pub links: u64,

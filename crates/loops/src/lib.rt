@@ -1,5 +1,7 @@
 // The lowest job on a cycle of links, by searches breadth first. Rows of jobs serve as three tables: 1 + the last link from a job, the mark of the search
 // that saw it, and a queue.
+#![tactic(auto)]
+
 ghost use Rattle.std.specs.Prelude.{◌≡◌, true, false, ◌<◌, length};
 ghost use Rattle.graph.specs.Graph.{graph_of, lowest};
 ghost use Rattle.graph.specs.JobRows.{starts, ends};

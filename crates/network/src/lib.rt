@@ -1,4 +1,6 @@
 // The network of a set: the links between the jobs of a cycle, the times that they leave, and what is found of both.
+#![tactic(auto)]
+
 ghost use Rattle.std.specs.Prelude.{◌≡◌};
 ghost use Rattle.kinds.specs.Tasks.{view};
 ghost use Rattle.reader.specs.Files.{taken_of};
@@ -16,7 +18,7 @@ mod tiers;
 mod times;
 
 // What is found of a set.
-#[derive(Drop)]
+#[derive(Clone, Copy)]
 pub struct Found {
     // How many jobs a cycle has; none where the set breaks rule 10.
     pub jobs: usize,
@@ -33,7 +35,7 @@ pub struct Found {
 }
 
 // How often the pairs of a pattern link jobs of one cycle, the first jobs of its two tasks, and how far each link lies behind the one before.
-#[derive(Drop)]
+#[derive(Clone, Copy)]
 struct Stride {
     repeats: usize,
     from: u32,
@@ -43,14 +45,14 @@ struct Stride {
 }
 
 // A job by its task, and by its place among the task's jobs.
-#[derive(Drop)]
+#[derive(Clone, Copy)]
 struct Job {
     task: u32,
     job: u32,
 }
 
 // The lowest job on a cycle and the lowest that is too tight, by their numbers; the number of jobs where there is none.
-#[derive(Drop)]
+#[derive(Clone, Copy)]
 struct Lowest {
     cycle: usize,
     tight: usize,

@@ -1,11 +1,13 @@
 // Numbers in a file: one to three bytes, seven bits each, in their shortest form only.
+#![tactic(auto)]
+
 ghost use Rattle.std.specs.Prelude.{◌≡◌, ◌+◌, ◌*◌, ◌<◌, length, get_or};
 ghost use Rattle.kinds.specs.Limits.{range};
 ghost use Rattle.numbers.specs.Numbers.{number_at, got_at};
 ghost use Rattle.numbers.specs.Bytes.{second_at, third_at};
 
 // What makes a file no plan file, with its evidence: a place in the file, or its length.
-#[derive(Drop)]
+#[derive(Clone, Copy)]
 pub enum Refusal {
     Ends(usize),
     Malformed(usize),
@@ -19,7 +21,7 @@ pub enum Refusal {
 }
 
 // What stands at a place: a number and the place after it; the file ends before or inside it; it has not its shortest form.
-#[derive(Drop)]
+#[derive(Clone, Copy)]
 pub enum Number {
     Value(u32, usize),
     Ends,
@@ -27,7 +29,7 @@ pub enum Number {
 }
 
 // A number in its range and the place after it.
-#[derive(Drop)]
+#[derive(Clone, Copy)]
 pub enum Got {
     Value(u32, usize),
     Refused(Refusal),

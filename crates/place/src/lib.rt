@@ -1,5 +1,7 @@
 // A file and a place in it as one thing, so that a place is never used on another file: thin functions over the reader. Only `new` makes a place of a
 // file; every other place comes of one in the same file.
+#![tactic(auto)]
+
 ghost use Rattle.std.specs.Prelude.{◌≡◌, drop};
 ghost use Rattle.numbers.specs.Numbers.{number_at};
 ghost use Rattle.reader.specs.Files.{read_of};
@@ -9,14 +11,14 @@ use heads::Outcome;
 use numbers::Number;
 use reader::Loaded;
 
-#[derive(Drop)]
+#[derive(Clone, Copy)]
 pub struct Place<'a> {
     src: &'a [u8],
     at: usize,
 }
 
 // What was read at a place, and the place after it, in the same file.
-#[derive(Drop)]
+#[derive(Clone, Copy)]
 pub struct Step<'a> {
     src: &'a [u8],
     at: usize,

@@ -1,4 +1,6 @@
 // The reader of plan files.
+#![tactic(auto)]
+
 ghost use Rattle.std.specs.Prelude.{◌≡◌, true, ◌*◌, ◌-◌, ◌≤◌, min, length, get_or};
 ghost use Rattle.vocabulary.specs.Least.{least};
 ghost use Rattle.numbers.specs.Answers.{refusal_number, refusal_evidence};
@@ -12,14 +14,14 @@ use kinds::{Attributes, Counts, Headings, Pairs, TaskSet};
 use numbers::Refusal;
 
 // The place of the first slot or the refusal, and the set, which a refusal leaves empty.
-#[derive(Drop)]
+#[derive(Clone, Copy)]
 pub struct Loaded {
     pub outcome: Outcome,
     pub set: TaskSet,
 }
 
 // Whether bytes are a whole head and nothing more, and the set, which is empty where they are not.
-#[derive(Drop)]
+#[derive(Clone, Copy)]
 pub struct Taking {
     pub fits: bool,
     pub set: TaskSet,

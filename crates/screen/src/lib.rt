@@ -1,4 +1,6 @@
 // The screen of task sets, and adjusted releases and deadlines.
+#![tactic(auto)]
+
 ghost use Rattle.std.specs.Prelude.{◌≡◌, get_or};
 ghost use Rattle.kinds.specs.Tasks.{Set, view};
 ghost use Rattle.reader.specs.Files.{taken_of};
@@ -12,7 +14,7 @@ use kinds::TaskSet;
 use network::Found;
 
 // Why no plan for a set can be accepted, or that nothing was found.
-#[derive(Drop)]
+#[derive(Clone, Copy)]
 pub enum Finding {
     Nothing,
     BadSet,
@@ -25,7 +27,7 @@ pub enum Finding {
 }
 
 // What the call for adjusted times did.
-#[derive(Drop)]
+#[derive(Clone, Copy)]
 pub enum Adjusted {
     Written,
     BadSet,

@@ -1,4 +1,6 @@
 // No slot is above the task count: rule 12 (R7.5 in docs/RULES.md), for a plan and for a row of it, and 7 (R6.8), for the slots of a file.
+#![tactic(auto)]
+
 ghost use Rattle.std.specs.Prelude.{◌≡◌, ◌≤◌, length};
 ghost use Rattle.vocabulary.specs.Least.{least};
 ghost use Rattle.slots.specs.High.{high};

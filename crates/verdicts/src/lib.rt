@@ -1,4 +1,6 @@
 // What the programs say of a plan: the judge's verdict as a line of number, evidence and words.
+#![tactic(auto)]
+
 ghost use Rattle.std.specs.Prelude.{◌≡◌};
 ghost use Rattle.verdicts.specs.Asked.{asked_by};
 

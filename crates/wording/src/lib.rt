@@ -1,4 +1,6 @@
 // What the programs say: counts and jobs in a line, the lines for a file that is read or refused, and the lines of its tasks.
+#![tactic(auto)]
+
 ghost use Rattle.std.specs.Prelude.{◌<◌, ◌≡◌};
 ghost use Rattle.console.specs.Lines.{Continues};
 ghost use Rattle.wording.specs.Signs.{sign_of};

@@ -1,4 +1,6 @@
 // The writer of plan files: from a task set and a plan to the bytes of a file.
+#![tactic(auto)]
+
 ghost use Rattle.std.specs.Prelude.{◌≡◌, get_or};
 ghost use Rattle.kinds.specs.Tasks.{view};
 ghost use Rattle.kinds.specs.Build.{lent_set};
@@ -12,7 +14,7 @@ mod bytes;
 mod lengths;
 
 // What the writer did.
-#[derive(Drop)]
+#[derive(Clone, Copy)]
 pub enum Written {
     // The file's length.
     Length(usize),
