@@ -1,6 +1,6 @@
 -- Of a set that the constructors made every entry beyond the counts is 0.
 use mathlib.Core.Path.{◌≡◌, refl, ◌∙◌}
-use mathlib.Core.Bool.{Bool, true, false, and_false}
+use mathlib.Core.Bool.{Bool, true, false, and-false}
 use mathlib.Core.List.{List}
 use Prim.Native.Nat.{ℕ, ◌+◌, ◌-◌, ◌*◌, ◌<◌, ◌≤◌}
 use native.Mathlib.Omega.{arith}
@@ -45,7 +45,7 @@ blank_overfull s b = record { attributes = past_all s.attributes 256 (4 * s.task
 -- ==== and rule 10 refuses it
 pub overfull_refused : (s : TaskSet) → sound (view (overfull s)) ≡ false
 unfolding sound opening_fits holds
-overfull_refused s = rw (and_false (holds editions s.edition))
+overfull_refused s = rw (and-false (holds editions s.edition))
 
 pub blank_task : (s : TaskSet) (t c o d : ℕ) → Blank s → Blank (with_task s t c o d)
 unfolding with_task

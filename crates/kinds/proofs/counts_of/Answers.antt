@@ -1,0 +1,7 @@
+use Rattle.kinds.specs.Sound.{counts_of}
+use borrow.Author.Rules.{rules}
+use Rattle.kinds.proofs.counts_of.Goals as goal
+
+pub returns : goal.returns
+unfolding counts_of
+returns c = rw (← c.sound_cycle-cycle.ensures)

@@ -1,0 +1,15 @@
+use mathlib.Core.Path.{◌≡◌, sym, ◌∙◌, ap}
+use Prim.Native.Nat.{◌-◌, ◌*◌, ◌/◌, ◌≤◌}
+use native.Mathlib.Nat.{div-le_self, le_antisymm}
+use native.Mathlib.Omega.{arith}
+use lib.ListN.{get_or}
+use Rattle.vocabulary.specs.Total.{total as sum, total_none, total_more}
+use Rattle.kinds.specs.Tasks.{period, tasks_of}
+use borrow.Author.Rules.{rules}
+use Rattle.kinds.proofs.jobs_in.Given as goal
+
+abbrev pub invariant-loop-i : goal.invariant-loop-i
+invariant-loop-i l = (l.i ≤ l.n) × (l.total ≡ sum (λ j. l.h / period (tasks_of l.n l.attributes) j) l.i) × (l.total ≤ 6000 * l.i)
+
+abbrev pub decreases-loop-i : goal.decreases-loop-i
+decreases-loop-i l = l.n - l.i

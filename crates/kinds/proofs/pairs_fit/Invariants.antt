@@ -1,0 +1,15 @@
+use mathlib.Core.Path.{◌≡◌, sym, ◌∙◌, refl}
+use Prim.Native.Nat.{◌-◌}
+use native.Mathlib.Omega.{arith}
+use Rattle.vocabulary.specs.StopsAndZeros.{stopped, passed}
+use Rattle.vocabulary.specs.Least.{Passing, pass_from, pass_on, pass_end, all_fails}
+use Rattle.kinds.specs.Sound.{pair_key, pair_fits}
+use Rattle.kinds.specs.RangeLaws.{pair_key_more, pair_fits_lem}
+use borrow.Author.Rules.{rules}
+use Rattle.kinds.proofs.pairs_fit.Given as goal
+
+abbrev pub invariant-loop-q : goal.invariant-loop-q
+invariant-loop-q l = Passing (pair_fits l.pairs l.start l.limit_a l.limit_b) l.n l.q × (l.low ≡ pair_key l.pairs l.start l.q)
+
+abbrev pub decreases-loop-q : goal.decreases-loop-q
+decreases-loop-q l = l.n - l.q

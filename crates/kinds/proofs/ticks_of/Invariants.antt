@@ -1,0 +1,17 @@
+use mathlib.Core.Path.{◌≡◌, sym, ◌∙◌, ap, subst}
+use Prim.Native.Nat.{ℕ, ◌-◌, ◌<◌, ◌≤◌}
+use native.Mathlib.Nat.{le_antisymm}
+use native.Mathlib.Omega.{arith}
+use Rattle.vocabulary.specs.Least.{Passing, pass_from, pass_on, pass_end}
+use Rattle.vocabulary.specs.Multiple.{lcm_of, lcm_of_none}
+use Rattle.kinds.specs.Limits.{holds, periods}
+use Rattle.kinds.specs.Tasks.{period, tasks_of}
+use Rattle.kinds.specs.RangeLaws.{ticks_broken, ticks_long, ticks_end, ticks_more, ticks_stop}
+use borrow.Author.Rules.{rules}
+use Rattle.kinds.proofs.ticks_of.Given as goal
+
+abbrev pub invariant-loop-i : goal.invariant-loop-i
+invariant-loop-i l = Passing (λ j. holds periods (period (tasks_of l.n l.attributes) j)) l.n l.i × (l.h ≡ lcm_of (λ j. period (tasks_of l.n l.attributes) j) l.i) × (0 < l.h) × (l.h ≤ 6000)
+
+abbrev pub decreases-loop-i : goal.decreases-loop-i
+decreases-loop-i l = l.n - l.i

@@ -1,0 +1,12 @@
+use Prim.Native.Nat.{◌-◌}
+use lib.ListN.{length}
+use Rattle.slots.specs.Topped.{Topped}
+use Rattle.slots.proofs.HighLaws.{top_from, top_on, top_end}
+use borrow.Author.Rules.{rules}
+use Rattle.slots.proofs.highest.Given as goal
+
+abbrev pub invariant-loop-e : goal.invariant-loop-e
+invariant-loop-e l = Topped l.slots l.e l.r
+
+abbrev pub decreases-loop-e : goal.decreases-loop-e
+decreases-loop-e l = length l.slots - l.e
