@@ -1,0 +1,13 @@
+use Rattle.loops.proofs.LentLaws.{rows_cleared}
+use Rattle.graph.specs.SearchRows.{Clearing, clear_from, clear_on}
+use Prim.Native.Nat.{◌-◌}
+use native.Mathlib.Omega.{arith}
+use lib.ListN.{length}
+use borrow.Author.Rules.{rules}
+use Rattle.loops.proofs.clear.Given as goal
+
+abbrev pub invariant-loop-i : goal.invariant-loop-i
+invariant-loop-i l = Clearing l.initial.jobs l.jobs l.i
+
+abbrev pub decreases-loop-i : goal.decreases-loop-i
+decreases-loop-i l = length l.initial.jobs - l.i

@@ -1,0 +1,14 @@
+use lib.ListN.{length}
+use native.Mathlib.Omega.{arith}
+use Prim.Native.Nat.{◌-◌}
+use mathlib.Core.Path.{refl}
+use Rattle.vocabulary.specs.Table.{Filling, fill_from, fill_on}
+use Rattle.loops.proofs.LentLaws.{Nought, lists_cleared}
+use borrow.Author.Rules.{rules}
+use Rattle.loops.proofs.clear_lists.Given as goal
+
+abbrev pub invariant-loop-k : goal.invariant-loop-k
+invariant-loop-k l = Filling Nought (length l.initial.next) l.k 0 l.next
+
+abbrev pub decreases-loop-k : goal.decreases-loop-k
+decreases-loop-k l = length l.initial.next - l.k
