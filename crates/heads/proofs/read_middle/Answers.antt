@@ -1,0 +1,21 @@
+use Rattle.numbers.specs.Numbers.{and_then}
+use Rattle.heads.specs.Heads.{middle_from}
+use Rattle.heads.proofs.Bounds.{cycle_broken, cycle_kept}
+use borrow.Author.Rules.{rules}
+use Rattle.heads.proofs.read_middle.Goals as goal
+
+pub returns-then-cycle-eq0 : goal.returns-then-cycle-eq0
+unfolding middle_from
+returns-then-cycle-eq0 c = simp (cycle_broken _ c.requires c.cycle_of-cycle.ensures c.if-cycle-eq0.true)
+
+pub returns-in-Refused : goal.returns-in-Refused
+unfolding middle_from and_then
+returns-in-Refused c =
+    let w = cycle_kept _ c.requires c.cycle_of-cycle.ensures c.if-cycle-eq0.false in
+    simp (w.0, ← c.read_within.ensures, c.in-Refused.is)
+
+pub returns-in-Value : goal.returns-in-Value
+unfolding middle_from and_then
+returns-in-Value c =
+    let w = cycle_kept _ c.requires c.cycle_of-cycle.ensures c.if-cycle-eq0.false in
+    simp (w.0, ← w.1, ← c.read_within.ensures, c.in-Value.is)

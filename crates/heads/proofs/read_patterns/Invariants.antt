@@ -1,0 +1,20 @@
+use mathlib.Core.Path.{◌≡◌, sym, ◌∙◌}
+use Prim.Native.Nat.{◌≤◌, ◌-◌, ◌*◌}
+use native.Mathlib.Nat.{sub-zero}
+use native.Mathlib.Omega.{arith}
+use Rattle.kinds.specs.Tasks.{tasks_of}
+use Rattle.heads.specs.Tables.{pattern_tables, patterns_from}
+use Rattle.heads.specs.Heads.{patterns_after}
+use Rattle.heads.specs.LoopSteps.{patterns_stop, patterns_turn, patterns_none}
+use Rattle.heads.proofs.Bounds.{pattern_low}
+use borrow.Author.Rules.{rules}
+use Rattle.heads.proofs.read_patterns.Given as goal
+
+abbrev pub invariant-loop-i : goal.invariant-loop-i
+invariant-loop-i l =
+    (l.i ≤ l.f.patterns) × (l.done.used ≤ 1024) × (l.done.links ≤ 6144000 * l.i)
+    × (patterns_from l.file l.f.edition (tasks_of l.f.tasks l.attributes) l.f.ticks (l.f.patterns - l.i) l.i l.done (pattern_tables l.headings l.pairs)
+    ≡ patterns_after l.file l.start l.f l.attributes (pattern_tables l.initial.headings l.initial.pairs))
+
+abbrev pub decreases-loop-i : goal.decreases-loop-i
+decreases-loop-i l = l.f.patterns - l.i
