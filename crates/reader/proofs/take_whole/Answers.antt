@@ -1,0 +1,11 @@
+use mathlib.Core.Path.{◌∙◌}
+use borrow.Author.Tests.{eq-eqb, ne_eqb}
+use Rattle.vocabulary.specs.Test.{by_true, by_false}
+use borrow.Author.Rules.{rules}
+use Rattle.reader.proofs.take_whole.Goals as goal
+
+pub returns-then-at-length : goal.returns-then-at-length
+returns-then-at-length c = by_true _ _ (eq-eqb _ _ c.if-at-length.true)
+
+pub returns : goal.returns
+returns c = c.take_none.ensures ∙ by_false _ _ (ne_eqb _ _ c.if-at-length.false)
