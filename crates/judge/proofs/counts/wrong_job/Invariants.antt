@@ -1,0 +1,15 @@
+use Prim.Native.Nat.{◌-◌}
+use Rattle.vocabulary.specs.Least.{Seeking, seek, on, hit, miss}
+use Rattle.kinds.specs.Cycle.{jobs_of}
+use Rattle.judge.specs.Rules.{miscounts}
+use Rattle.judge.specs.TableNeeds.{Tells}
+use Rattle.judge.proofs.LaneLaws.{lane_low, lane_high}
+use Rattle.judge.proofs.CountLaws.{miscount_yes, miscount_no}
+use borrow.Author.Rules.{rules}
+use Rattle.judge.proofs.counts.wrong_job.Given as goal
+
+abbrev pub invariant-loop-k : goal.invariant-loop-k
+invariant-loop-k l = (t : Tells l.rows l.l) → Seeking (miscounts t.tasks t.plan t.task) (jobs_of t.tasks t.task) l.k
+
+abbrev pub decreases-loop-k : goal.decreases-loop-k
+decreases-loop-k l = l.l.jobs - l.k

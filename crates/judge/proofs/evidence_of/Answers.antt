@@ -1,0 +1,17 @@
+use borrow.Author.Rules.{rules}
+use Rattle.judge.proofs.evidence_of.Goals as goal
+
+pub returns-in-BadSlot : goal.returns-in-BadSlot
+returns-in-BadSlot c = rw c.in-BadSlot.is c.one_of.ensures
+
+pub returns-in-Twice : goal.returns-in-Twice
+returns-in-Twice c = rw c.in-Twice.is c.three_of.ensures
+
+pub returns-in-Outside : goal.returns-in-Outside
+returns-in-Outside c = rw c.in-Outside.is c.two_of.ensures
+
+pub returns-in-WrongCount : goal.returns-in-WrongCount
+returns-in-WrongCount c = rw c.in-WrongCount.is c.five_of.ensures
+
+pub returns-in-BrokenLink : goal.returns-in-BrokenLink
+returns-in-BrokenLink c = rw c.in-BrokenLink.is c.three_of-in-BrokenLink.ensures

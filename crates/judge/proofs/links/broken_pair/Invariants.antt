@@ -1,0 +1,14 @@
+use native.Mathlib.Omega.{arith}
+use Prim.Native.Nat.{◌-◌}
+use Rattle.vocabulary.specs.Least.{Seeking, seek, on, hit, miss}
+use Rattle.judge.specs.Rules.{broken_pair}
+use Rattle.judge.specs.TableNeeds.{PatternOf}
+use Rattle.judge.proofs.LinkTableLaws.{pattern_pair, pairs_room, pair_yes, pair_no}
+use borrow.Author.Rules.{rules}
+use Rattle.judge.proofs.links.broken_pair.Given as goal
+
+abbrev pub invariant-loop-q : goal.invariant-loop-q
+invariant-loop-q l = (w : PatternOf l.pairs l.rows l.g l.start l.n) → Seeking (broken_pair w.tasks w.patterns w.plan w.pattern) l.n l.q
+
+abbrev pub decreases-loop-q : goal.decreases-loop-q
+decreases-loop-q l = l.n - l.q

@@ -1,0 +1,29 @@
+use mathlib.Core.Path.{◌≡◌, sym, ◌∙◌}
+use Prim.Native.Nat.{◌-◌, ◌*◌}
+use Rattle.vocabulary.specs.Least.{Seeking, seek, on, hit, miss}
+use Rattle.kinds.specs.Plans.{plan}
+use Rattle.judge.specs.Rules.{clashes}
+use Rattle.judge.proofs.RowLaws.{row_next}
+use borrow.Author.Rules.{rules}
+use native.Mathlib.Omega.{arith}
+use Rattle.judge.proofs.twice.first_twice.Goals as goal
+
+pub loop-c-init : goal.loop-c-init
+loop-c-init c = (seek _ _, omega arith)
+
+pub is_row_twice-requires : goal.is_row_twice-requires
+is_row_twice-requires c = (c.requires, c.loop-c-test.true, c.loop-c.invariant.1)
+
+pub returns-then-is_row_twice : goal.returns-then-is_row_twice
+returns-then-is_row_twice c = hit _ _ _ c.loop-c.invariant.0 (sym c.is_row_twice.ensures ∙ c.if-is_row_twice.true)
+
+pub overflow_add-a : goal.overflow_add-a
+overflow_add-a c =
+    omega (arith, row_next _ _ _ _ _ c.requires c.loop-c-test.true c.loop-c.invariant.1)
+
+pub loop-c-preserved : goal.loop-c-preserved
+loop-c-preserved c =
+    (on _ _ _ c.loop-c.invariant.0 c.loop-c-test.true (sym c.is_row_twice.ensures ∙ c.if-is_row_twice.false), omega (arith, c.loop-c.invariant.1))
+
+pub returns : goal.returns
+returns c = miss _ _ _ c.loop-c.invariant.0 c.loop-c-test.false

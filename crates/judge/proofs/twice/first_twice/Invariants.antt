@@ -1,0 +1,15 @@
+use mathlib.Core.Path.{◌≡◌, sym, ◌∙◌}
+use Prim.Native.Nat.{◌-◌, ◌*◌}
+use Rattle.vocabulary.specs.Least.{Seeking, seek, on, hit, miss}
+use Rattle.kinds.specs.Plans.{plan}
+use Rattle.judge.specs.Rules.{clashes}
+use Rattle.judge.proofs.RowLaws.{row_next}
+use borrow.Author.Rules.{rules}
+use native.Mathlib.Omega.{arith}
+use Rattle.judge.proofs.twice.first_twice.Given as goal
+
+abbrev pub invariant-loop-c : goal.invariant-loop-c
+invariant-loop-c l = Seeking (clashes (plan l.slots l.m l.h)) l.h l.c × (l.a ≡ l.c * l.m)
+
+abbrev pub decreases-loop-c : goal.decreases-loop-c
+decreases-loop-c l = l.h - l.c

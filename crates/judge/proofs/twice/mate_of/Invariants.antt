@@ -1,0 +1,13 @@
+use mathlib.Core.Path.{sym, ◌∙◌}
+use Prim.Native.Nat.{◌-◌}
+use Rattle.vocabulary.specs.Least.{Seeking, seek, on, hit, miss}
+use Rattle.kinds.specs.Plans.{plan}
+use Rattle.judge.specs.Rules.{twin}
+use borrow.Author.Rules.{rules}
+use Rattle.judge.proofs.twice.mate_of.Given as goal
+
+abbrev pub invariant-loop-r : goal.invariant-loop-r
+invariant-loop-r l = Seeking (twin (plan l.slots l.m l.h) l.c l.q) l.m l.r
+
+abbrev pub decreases-loop-r : goal.decreases-loop-r
+decreases-loop-r l = l.m - l.r

@@ -1,0 +1,10 @@
+use mathlib.Core.Path.{sym}
+use Rattle.laws.specs.Window.{time_awake, time_asleep}
+use borrow.Author.Rules.{rules}
+use Rattle.judge.proofs.walk.time_of.Goals as goal
+
+pub returns-then-o-c : goal.returns-then-o-c
+returns-then-o-c c = sym (time_awake _ _ _ c.if-o-c.true)
+
+pub returns : goal.returns
+returns c = sym (time_asleep _ _ _ c.if-o-c.false)
