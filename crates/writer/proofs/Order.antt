@@ -20,9 +20,6 @@ use Rattle.kinds.specs.Sound.{sound}
 use Rattle.kinds.specs.SoundByTests.{CountsFound, lent_is}
 use Rattle.kinds.proofs.SoundFacts.{Sound, sound_facts}
 use Rattle.slots.specs.High.{high}
-use types.Run.{OneOf, miss}
-use denote.Enum.Declared.{tag_of}
-use Rattle.writer.specs.contracts.Written as own
 use Rattle.writer.specs.declared.Written.{Written}
 use Rattle.writer.specs.declared.Written.TheVariants as written
 use Rattle.writer.specs.Format.{head_bytes, bytes_of}
@@ -144,9 +141,9 @@ unfolding written_of rules first_of
 answers s slots room n a =
     rw (a.is_sound, eq-eqb (length slots) (s.processors * cycle s.tasks) a.long, a.none_high, a.is, le-ltb room n a.fits)
 
-left_kept : (r : Written) (file out : List ℕ) → OneOf (1 ∷ 2 ∷ 3 ∷ 4 ∷ []) (tag_of own.the_type r) → out ≡ left_in r file out
+left_kept : (r : Written) (file out : List ℕ) → ((n : ℕ) → r ≡ written.Length n → ⊥) → out ≡ left_in r file out
 unfolding left_in
-left_kept (written.Length n) file out h = absurd (miss (1 ∷ 2 ∷ 3 ∷ 4 ∷ []) 0 tt h)
+left_kept (written.Length n) file out h = absurd (h n refl)
 left_kept written.BadSet file out h = refl
 left_kept written.WrongLength file out h = refl
 left_kept (written.BadSlot e) file out h = refl
@@ -174,7 +171,7 @@ module _ (s : Set) (slots out : List ℕ) {r : Written} (e : r ≡ written_of s 
       rw (← e, q, i) (ap (write_leaves (written.Length n)) (sets-eq (head_bytes s ++ slots) out 0 (omega (arith, w.is, w.fits)) ∙ rw z))
 
   -- a refusal leaves the buffer
-  pub kept : OneOf (1 ∷ 2 ∷ 3 ∷ 4 ∷ []) (tag_of own.the_type r) → write_leaves r out ≡ write_for s slots out
+  pub kept : ((n : ℕ) → r ≡ written.Length n → ⊥) → write_leaves r out ≡ write_for s slots out
   unfolding write_for
   kept h = rw (← e) (ap (write_leaves r) (left_kept r (bytes_of s slots) out h))
 

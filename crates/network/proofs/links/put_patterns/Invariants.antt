@@ -1,0 +1,12 @@
+use Rattle.network.specs.LinkLists.{Spreading, spread_from, spread_tasks, spread_asks, spread_room, spread_on, spread_end}
+use Rattle.kinds.specs.Tasks.{patterns_of}
+use native.Mathlib.Omega.{arith}
+use Prim.Native.Nat.{◌-◌}
+use borrow.Author.Rules.{rules}
+use Rattle.network.proofs.links.put_patterns.Given as goal
+
+abbrev pub invariant-loop-k : goal.invariant-loop-k
+invariant-loop-k l = Spreading l.h l.attributes l.base (patterns_of l.n l.headings l.pairs) l.initial.links l.links l.e l.used l.k
+
+abbrev pub decreases-loop-k : goal.decreases-loop-k
+decreases-loop-k l = l.n - l.k

@@ -1,0 +1,12 @@
+use Rattle.network.specs.Named.{Loading, load_from, load_some, load_low, load_on, load_room, load_end}
+use Rattle.kinds.specs.Tasks.{tasks_of}
+use native.Mathlib.Omega.{arith}
+use Prim.Native.Nat.{◌-◌}
+use borrow.Author.Rules.{rules}
+use Rattle.network.proofs.sums.load_of.Given as goal
+
+abbrev pub invariant-loop-i : goal.invariant-loop-i
+invariant-loop-i l = Loading l.h (tasks_of l.n l.attributes) l.sum l.i
+
+abbrev pub decreases-loop-i : goal.decreases-loop-i
+decreases-loop-i l = l.n - l.i

@@ -1,0 +1,15 @@
+use Rattle.network.specs.JobTimes.{over, over_is}
+use Rattle.vocabulary.specs.Least.{Seeking, seek, on, hit, miss}
+use borrow.Author.Tests.{lt-ltb, le-ltb}
+use mathlib.Core.Path.{sym, ◌∙◌}
+use native.Mathlib.Omega.{arith}
+use Prim.Native.Nat.{◌-◌}
+use lib.ListN.{length}
+use borrow.Author.Rules.{rules}
+use Rattle.network.proofs.times.first_over.Given as goal
+
+abbrev pub invariant-loop-x : goal.invariant-loop-x
+invariant-loop-x l = Seeking (over l.jobs) (length l.jobs) l.x
+
+abbrev pub decreases-loop-x : goal.decreases-loop-x
+decreases-loop-x l = length l.jobs - l.x

@@ -1,0 +1,17 @@
+use Prim.Native.Nat.{◌-◌, ◌≤◌}
+use mathlib.Core.Path.{◌≡◌, sym}
+use native.Mathlib.Omega.{arith}
+use Rattle.vocabulary.specs.Table.{join}
+use Rattle.kinds.specs.Tasks.{patterns_of, pairs_in}
+use Rattle.kinds.specs.RangeLaws.{pairs_none}
+use Rattle.writer.specs.FormatLaws.{pattern_bytes}
+use Rattle.writer.specs.Wrote.{Wrote, wrote_long}
+use Rattle.writer.proofs.Turns.{from_low, to_low, count_low, used_low, used_turn, heading_room, pairs_room, wrote_turn, wrote_no_pattern, wrote_patterns}
+use borrow.Author.Rules.{rules}
+use Rattle.writer.proofs.bytes.emit_patterns.Given as goal
+
+abbrev pub invariant-loop-k : goal.invariant-loop-k
+invariant-loop-k l = (l.k ≤ l.n) × (l.used ≡ pairs_in l.headings l.k) × Wrote l.initial.out l.at (join (pattern_bytes (patterns_of l.n l.headings l.pairs)) l.k) l.out l.next
+
+abbrev pub decreases-loop-k : goal.decreases-loop-k
+decreases-loop-k l = l.n - l.k

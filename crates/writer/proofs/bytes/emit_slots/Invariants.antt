@@ -1,0 +1,14 @@
+use Prim.Native.Nat.{◌-◌, ◌≤◌}
+use mathlib.Core.Path.{◌≡◌}
+use native.Mathlib.Omega.{arith}
+use lib.ListN.{length}
+use lib.Seq.{paste}
+use Rattle.writer.proofs.Turns.{copy_first, copy_next, copy_long, copied}
+use borrow.Author.Rules.{rules}
+use Rattle.writer.proofs.bytes.emit_slots.Given as goal
+
+abbrev pub invariant-loop-e : goal.invariant-loop-e
+invariant-loop-e l = (l.e ≤ length l.slots) × (l.out ≡ paste l.initial.out l.at l.slots l.e)
+
+abbrev pub decreases-loop-e : goal.decreases-loop-e
+decreases-loop-e l = length l.slots - l.e

@@ -1,0 +1,18 @@
+use Prim.Native.Nat.{◌+◌, ◌*◌, ◌-◌, ◌≤◌}
+use mathlib.Core.Path.{◌≡◌, sym, ap, ◌∙◌}
+use native.Mathlib.Omega.{arith}
+use native.Mathlib.Nat.{le_antisymm}
+use lib.ListN.{length}
+use Rattle.vocabulary.specs.Table.{join}
+use Rattle.kinds.specs.Tasks.{patterns_of, pairs_in}
+use Rattle.kinds.specs.RangeLaws.{pairs_none}
+use Rattle.writer.specs.FormatLaws.{pattern_bytes}
+use Rattle.writer.proofs.Turns.{used_low, used_turn, length_turn, turn_low, no_patterns}
+use borrow.Author.Rules.{rules}
+use Rattle.writer.proofs.lengths.patterns_length.Given as goal
+
+abbrev pub invariant-loop-k : goal.invariant-loop-k
+invariant-loop-k l = (l.k ≤ l.n) × (l.used ≡ pairs_in l.headings l.k) × (l.total ≡ length (join (pattern_bytes (patterns_of l.n l.headings l.pairs)) l.k)) × (l.total ≤ 9 * l.k + 6 * l.used) × (l.used ≤ 1024)
+
+abbrev pub decreases-loop-k : goal.decreases-loop-k
+decreases-loop-k l = l.n - l.k

@@ -1,0 +1,24 @@
+use mathlib.Core.Path.{◌∙◌}
+use Rattle.kinds.specs.Build.{lent_set}
+use Rattle.writer.specs.Wrote.{wrote_long}
+use Rattle.writer.proofs.Order.{head_room, slots_room, all_written, kept}
+use borrow.Author.Rules.{rules}
+use Rattle.writer.proofs.write_tables.Goals as goal
+
+pub answer-requires : goal.answer-requires
+answer-requires c = c.requires
+
+pub emit_head-at-requires : goal.emit_head-at-requires
+emit_head-at-requires c = (c.requires.is_sound, head_room (lent_set c.args.f c.args.attributes.now c.args.headings.now c.args.pairs.now) c.args.plan.now c.args.out.now c.answer.ensures c.in-Length.is)
+
+pub emit_slots-requires : goal.emit_slots-requires
+emit_slots-requires c = slots_room (lent_set c.args.f c.args.attributes.now c.args.headings.now c.args.pairs.now) c.args.plan.now c.args.out.now c.answer.ensures c.in-Length.is c.emit_head-at.ensures
+
+pub shape_of-out : goal.shape_of-out
+shape_of-out c = wrote_long c.emit_slots.ensures ∙ wrote_long c.emit_head-at.ensures
+
+pub returns-in-Length : goal.returns-in-Length
+returns-in-Length c = all_written (lent_set c.args.f c.args.attributes.now c.args.headings.now c.args.pairs.now) c.args.plan.now c.args.out.now c.answer.ensures c.in-Length.is c.emit_head-at.ensures c.emit_slots.ensures
+
+pub returns-in_default : goal.returns-in_default
+returns-in_default c = kept (lent_set c.args.f c.args.attributes.now c.args.headings.now c.args.pairs.now) c.args.plan.now c.args.out.now c.answer.ensures c.in_default.not-Length

@@ -1,0 +1,14 @@
+use mathlib.Core.Path.{◌∙◌}
+use Rattle.reader.proofs.WholeLaws.{whole_found}
+use Rattle.writer.proofs.Order.{no_head, head_answered}
+use borrow.Author.Rules.{rules}
+use Rattle.writer.proofs.written_head.Goals as goal
+
+pub returns-then-f-eq0 : goal.returns-then-f-eq0
+returns-then-f-eq0 c = no_head _ _ _ _ c.read_whole-f.ensures _ c.if-f-eq0.true
+
+pub answer-requires : goal.answer-requires
+answer-requires c = whole_found _ _ _ c.read_whole-f.ensures c.if-f-eq0.false
+
+pub returns : goal.returns
+returns c = c.answer.ensures ∙ head_answered _ _ _ _ c.read_whole-f.ensures _ c.if-f-eq0.false
