@@ -1,0 +1,6 @@
+use borrow.Author.Rules.{rules}
+use Rattle.dispatcher.proofs.ByteLoops.{clear_is}
+use Rattle.dispatcher.proofs.State.is_clear.Goals as goal
+
+pub returns : goal.returns
+returns c = clear_is _ _ c.byte_in.ensures

@@ -1,0 +1,13 @@
+use Prim.Native.Nat.{◌-◌}
+use lib.ListN.{get_or}
+use borrow.Author.Rules.{rules}
+use Rattle.vocabulary.specs.Table.{Filling, fill_from, fill_on, filled_table, is}
+use Rattle.dispatcher.specs.Bytes.{bytes_of}
+use Rattle.dispatcher.proofs.ByteLoops.{written, not_written}
+use Rattle.dispatcher.proofs.State.write.Given as goal
+
+abbrev pub invariant-loop-k : goal.invariant-loop-k
+invariant-loop-k l = Filling (is (λ j. get_or (bytes_of l.self) j 0)) 21 l.k 0 l.out
+
+abbrev pub decreases-loop-k : goal.decreases-loop-k
+decreases-loop-k l = 21 - l.k

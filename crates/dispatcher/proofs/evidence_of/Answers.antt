@@ -1,0 +1,5 @@
+use borrow.Author.Rules.{rules}
+use Rattle.dispatcher.proofs.evidence_of.Goals as goal
+
+pub returns-in-BadSlot : goal.returns-in-BadSlot
+returns-in-BadSlot c = rw c.in-BadSlot.is c.one_of.ensures

@@ -1,0 +1,5 @@
+use borrow.Author.Rules.{rules}
+use Rattle.dispatcher.proofs.marks.is_asleep.Goals as goal
+
+pub returns-then-s : goal.returns-then-s
+returns-then-s c = rw c.if-s.true

@@ -1,0 +1,14 @@
+use mathlib.Core.Logic.{⊎_elim}
+use mathlib.Core.Path.{sym, ◌∙◌}
+use Prim.Native.Nat.{◌-◌}
+use borrow.Author.Rules.{rules}
+use Rattle.vocabulary.specs.Bits.{Packing, pack_from, pack_hit, pack_miss, pack_room, packed}
+use Rattle.dispatcher.specs.Looks.{keeps}
+use Rattle.kinds.specs.Tasks.{tasks_of}
+use Rattle.dispatcher.proofs.marks.kept_marks.Given as goal
+
+abbrev pub invariant-loop-i : goal.invariant-loop-i
+invariant-loop-i l = Packing (keeps (tasks_of l.f.tasks l.attributes) l.f.ticks l.c l.marks) l.f.tasks l.i l.r
+
+abbrev pub decreases-loop-i : goal.decreases-loop-i
+decreases-loop-i l = l.f.tasks - l.i

@@ -1,0 +1,13 @@
+use Prim.Native.Nat.{◌-◌}
+use native.Mathlib.Omega.{arith}
+use lib.ListN.{get_or}
+use Rattle.vocabulary.specs.Words.{Marking, mark_from, mark_on, marked}
+use Rattle.dispatcher.specs.Steps.{stands_at}
+use borrow.Author.Rules.{rules}
+use Rattle.dispatcher.proofs.marks.ran_in.Given as goal
+
+abbrev pub invariant-loop-q : goal.invariant-loop-q
+invariant-loop-q l = Marking (λ k. get_or l.row k 0) 8 l.q l.r
+
+abbrev pub decreases-loop-q : goal.decreases-loop-q
+decreases-loop-q l = 8 - l.q

@@ -1,0 +1,13 @@
+use mathlib.Core.Path.{refl}
+use Prim.Native.Nat.{◌-◌}
+use native.Mathlib.Omega.{arith}
+use lib.ListN.{get_or, length}
+use Rattle.vocabulary.specs.Table.{Filling, fill_from, fill_on, filled_table, is}
+use borrow.Author.Rules.{rules}
+use Rattle.dispatcher.proofs.marks.show_row.Given as goal
+
+abbrev pub invariant-loop-q : goal.invariant-loop-q
+invariant-loop-q l = Filling (is (λ k. get_or l.row k 0)) (length l.initial.out) l.q 0 l.out
+
+abbrev pub decreases-loop-q : goal.decreases-loop-q
+decreases-loop-q l = length l.initial.out - l.q

@@ -1,0 +1,15 @@
+use mathlib.Core.Path.{refl, ◌∙◌}
+use mathlib.Core.List.{[]}
+use Prim.Native.Nat.{◌-◌}
+use lib.ListN.{get_or}
+use Rattle.vocabulary.specs.Table.{Filling, fill_from, fill_on, filled_table, is}
+use Rattle.dispatcher.specs.Steps.{byte_of}
+use Rattle.kinds.specs.Tasks.{tasks_of}
+use borrow.Author.Rules.{rules}
+use Rattle.dispatcher.proofs.marks.shown_row.Given as goal
+
+abbrev pub invariant-loop-q : goal.invariant-loop-q
+invariant-loop-q l = Filling (is (λ k. byte_of (tasks_of 0 l.attributes) l.s l.done (get_or l.row k 0))) 8 l.q 0 l.shown
+
+abbrev pub decreases-loop-q : goal.decreases-loop-q
+decreases-loop-q l = 8 - l.q
