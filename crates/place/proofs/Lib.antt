@@ -1,4 +1,1 @@
-pub mod Begun
-pub mod Held
-pub mod HeldStep
 pub mod PlaceLaws
