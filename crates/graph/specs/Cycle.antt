@@ -1,5 +1,5 @@
 -- Links in two lists, and numbers that show that no job lies on a cycle.
-use Rattle.std.specs.Prelude.{◌≡◌, List, ℕ, ◌≤◌, ◌<◌, length}
+use Rattle.std.specs.Prelude.{◌≡◌, List, ℕ, ◌<◌, length}
 use Rattle.std.proofs.Common.{sym, ap, arith}
 use Rattle.vocabulary.specs.Least.{least_only}
 use Rattle.graph.specs.Graph.{Graph, LinksInside, graph_of, loops, lowest}

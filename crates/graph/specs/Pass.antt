@@ -1,6 +1,6 @@
 -- Rounds in place over a list of links, and what they leave.
 use Rattle.std.specs.Prelude.{◌≡◌, refl, Bool, true, false, List, ◌⊎◌, ℕ, zero, suc, ◌+◌, ◌-◌, ◌*◌, ◌≤◌, ◌<◌, min, length, get_or, set}
-use Rattle.std.proofs.Common.{sym, ap, ◌∙◌, inl, inr, ⊎_elim, add-one, arith, length-set, get_or-set_same, get_or-set_other, below_more}
+use Rattle.std.proofs.Common.{sym, ap, ◌∙◌, inl, inr, ⊎_elim, add-one, arith, length-set, get_or-set_same, get_or-set_other}
 use Rattle.vocabulary.specs.Test.{pick, clash, lt_or_le, eq_or_ne}
 use Rattle.graph.specs.Graph.{Graph, LinksInside, graph_of}
 use Rattle.graph.specs.Reach.{Free}

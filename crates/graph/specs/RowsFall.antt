@@ -1,6 +1,6 @@
 -- A walk over the links that sees whether the jobs' numbers fall along each.
 use Rattle.std.specs.Prelude.{◌≡◌, List, [], ℕ, ◌+◌, ◌≤◌, ◌<◌, length, get_or}
-use Rattle.std.proofs.Common.{sym, ap, ap₂, ◌∙◌, arith, below_more}
+use Rattle.std.proofs.Common.{sym, ap, ◌∙◌, arith, below_more}
 use Rattle.graph.specs.Column.{column_long, column_at}
 use Rattle.graph.specs.Pass.{at}
 use Rattle.graph.specs.Cycle.{Between, Falling}

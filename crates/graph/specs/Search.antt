@@ -1,6 +1,6 @@
 -- A search, breadth first, for a way from a job back to itself. It follows the links of a job by lists, and only through jobs that are not below the
 -- first: those lie on no cycle.
-use Rattle.std.specs.Prelude.{◌≡◌, refl, true, false, List, ◌⊎◌, ℕ, suc, ◌+◌, ◌≤◌, ◌<◌, eqb, length, set}
+use Rattle.std.specs.Prelude.{◌≡◌, refl, false, List, ◌⊎◌, ℕ, ◌+◌, ◌≤◌, ◌<◌, eqb, length, set}
 use Rattle.std.proofs.Common.{sym, ap, ◌∙◌, inl, inr, ⊎_elim, arith, length-set, get_or-set_same, get_or-set_other, eqb-true, eq-eqb, ne_eqb}
 use Rattle.vocabulary.specs.Test.{clash, fails, lt_or_le, eq_or_ne}
 use Rattle.vocabulary.specs.Count.{count, count_le, count_pos}

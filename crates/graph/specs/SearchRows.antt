@@ -4,7 +4,7 @@ use Rattle.std.proofs.Common.{sym, ap, ◌∙◌, inl, inr, ⊎_elim, arith, len
 use Rattle.std.proofs.Math.ListN.{get_or-eq_default}
 use Rattle.vocabulary.specs.Test.{clash, lt_or_le, eq_or_ne}
 use Rattle.vocabulary.specs.Least.{Seeking, seek, on, hit, miss}
-use Rattle.graph.specs.Graph.{Graph, LinksInside, graph_of, Way, loops, lowest}
+use Rattle.graph.specs.Graph.{Graph, graph_of, Way, loops, lowest}
 use Rattle.graph.specs.Reach.{loops_iff}
 use Rattle.graph.specs.Column.{column, column_long, column_at, column_set, column_kept}
 use Rattle.graph.specs.Pass.{at}

@@ -16,7 +16,7 @@ use Rattle.kinds.specs.declared.Key.{Key}
 use Rattle.kinds.specs.declared.Spans.{Spans}
 use Rattle.kinds.specs.declared.Pattern.{Pattern}
 use Rattle.kinds.specs.declared.Tested.{Tested}
-use Rattle.kinds.specs.Limits.{periods, rises, no_key, after}
+use Rattle.kinds.specs.Limits.{rises, no_key, after}
 use Rattle.kinds.specs.Tasks.{Tasks, Patterns, period, from_task, to_task, pair_count, pairs_before, pattern_in, pattern_in_lem}
 use Rattle.kinds.specs.Links.{common, first_reach, reach, repeats, links_of, links, spans_of, links_in}
 use Rattle.kinds.specs.Sound.{pair_fits, pattern_key, heading_fits, pattern_fits, unfit, pattern_tested, PatternsTested, PatternsAsked}

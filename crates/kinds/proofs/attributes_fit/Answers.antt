@@ -1,8 +1,6 @@
 use native.Mathlib.Omega.{arith}
-use Rattle.vocabulary.specs.StopsAndZeros.{stopped, passed}
 use Rattle.kinds.specs.Sound.{attributes_fit}
 use Rattle.kinds.specs.RangeLaws.{holds_at}
-use borrow.Author.Rules.{rules}
 use Rattle.std.proofs.Common.{sym, ◌∙◌}
 use Rattle.kinds.proofs.attributes_fit.Goals as goal
 

@@ -1,12 +1,10 @@
 use mathlib.Core.Path.{◌∙◌}
 use native.Mathlib.Omega.{arith}
-use Rattle.vocabulary.specs.StopsAndZeros.{stopped, passed}
 use Rattle.vocabulary.specs.Test.{and_false}
 use Rattle.vocabulary.specs.Multiple.{lcm_comm}
 use Rattle.kinds.specs.Limits.{holds, periods}
 use Rattle.kinds.specs.Cycle.{multiple_of}
 use Rattle.kinds.specs.RangeLaws.{holds_at}
-use borrow.Author.Rules.{rules}
 use Rattle.std.proofs.Common.{sym}
 use Rattle.kinds.proofs.common_multiple.Goals as goal
 

@@ -1,5 +1,4 @@
 use Rattle.kinds.specs.Sound.{counts_of}
-use borrow.Author.Rules.{rules}
 use Rattle.kinds.proofs.counts_of.Goals as goal
 
 pub returns : goal.returns

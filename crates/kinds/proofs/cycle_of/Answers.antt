@@ -2,7 +2,6 @@ use mathlib.Core.Path.{◌∙◌, subst}
 use Prim.Native.Nat.{ℕ, ◌<◌}
 use Rattle.vocabulary.specs.Least.{all_at}
 use Rattle.kinds.specs.RangeLaws.{holds_at, ticks_some, cycle_many, cycle_none, cycle_over, cycle_some, jobs_is}
-use borrow.Author.Rules.{rules}
 use Rattle.kinds.proofs.cycle_of.Goals as goal
 
 pub returns-then-n-gt-MOST_TASKS : goal.returns-then-n-gt-MOST_TASKS

@@ -1,6 +1,5 @@
 use mathlib.Core.Path.{refl}
 use Rattle.kinds.specs.SoundByTests.{sound_by_ticks}
-use borrow.Author.Rules.{rules}
 use Rattle.kinds.proofs.is_sound.Goals as goal
 
 pub returns : goal.returns

@@ -1,10 +1,9 @@
-use mathlib.Core.Path.{◌≡◌, sym, ◌∙◌, ap}
-use Prim.Native.Nat.{◌-◌, ◌*◌, ◌/◌, ◌≤◌}
+use mathlib.Core.Path.{sym, ◌∙◌, ap}
+use Prim.Native.Nat.{◌*◌}
 use native.Mathlib.Nat.{div-le_self, le_antisymm}
 use native.Mathlib.Omega.{arith}
 use lib.ListN.{get_or}
 use Rattle.vocabulary.specs.Total.{total as sum, total_none, total_more}
-use Rattle.kinds.specs.Tasks.{period, tasks_of}
 use borrow.Author.Rules.{rules}
 use Rattle.kinds.proofs.jobs_in.Goals as goal
 

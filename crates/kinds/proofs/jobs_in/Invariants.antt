@@ -1,11 +1,7 @@
-use mathlib.Core.Path.{◌≡◌, sym, ◌∙◌, ap}
+use mathlib.Core.Path.{◌≡◌}
 use Prim.Native.Nat.{◌-◌, ◌*◌, ◌/◌, ◌≤◌}
-use native.Mathlib.Nat.{div-le_self, le_antisymm}
-use native.Mathlib.Omega.{arith}
-use lib.ListN.{get_or}
-use Rattle.vocabulary.specs.Total.{total as sum, total_none, total_more}
+use Rattle.vocabulary.specs.Total.{total as sum}
 use Rattle.kinds.specs.Tasks.{period, tasks_of}
-use borrow.Author.Rules.{rules}
 use Rattle.kinds.proofs.jobs_in.Given as goal
 
 abbrev pub invariant-loop-i : goal.invariant-loop-i

@@ -3,7 +3,6 @@ use native.Mathlib.Nat.{div-le_self, mul-le-mul}
 use native.Mathlib.Omega.{arith}
 use borrow.Author.Tests.{eq-eqb, ne_eqb}
 use Rattle.kinds.specs.Links.{links_in}
-use borrow.Author.Rules.{rules}
 use Rattle.kinds.proofs.links_in.Goals as goal
 
 pub returns-then-p-eq0 : goal.returns-then-p-eq0

@@ -5,8 +5,7 @@ use native.Mathlib.Omega.{arith}
 use lib.Dec.{lit<}
 use lib.Ieee.{size}
 use Rattle.vocabulary.specs.Multiple.{lcm_le, lcm_whole}
-use Rattle.vocabulary.specs.Divisor.{Euclid, euclid_from, euclid_on, euclid_room, euclid_done, euclid_less, euclid_few}
-use borrow.Author.Rules.{rules}
+use Rattle.vocabulary.specs.Divisor.{euclid_from, euclid_on, euclid_room, euclid_done, euclid_less, euclid_few}
 use Rattle.kinds.proofs.multiple_of.Goals as goal
 
 -- so that there are no more than 26.

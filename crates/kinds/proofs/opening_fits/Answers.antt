@@ -1,8 +1,6 @@
 use native.Mathlib.Omega.{arith}
-use Rattle.vocabulary.specs.StopsAndZeros.{stopped, passed}
 use Rattle.kinds.specs.Sound.{opening_fits}
 use Rattle.kinds.specs.RangeLaws.{holds_low, holds_high, holds_yes}
-use borrow.Author.Rules.{rules}
 use Rattle.std.proofs.Common.{sym, ◌∙◌}
 use Rattle.kinds.proofs.opening_fits.Goals as goal
 

@@ -1,11 +1,8 @@
-use mathlib.Core.Path.{◌≡◌, sym, ◌∙◌, refl}
-use Prim.Native.Nat.{◌-◌}
+use mathlib.Core.Path.{sym, ◌∙◌, refl}
 use native.Mathlib.Omega.{arith}
-use Rattle.vocabulary.specs.StopsAndZeros.{stopped, passed}
-use Rattle.vocabulary.specs.Least.{Passing, pass_from, pass_on, pass_end, all_fails}
-use Rattle.kinds.specs.Sound.{pair_key, pair_fits}
+use Rattle.vocabulary.specs.Least.{pass_from, pass_on, pass_end, all_fails}
+use Rattle.kinds.specs.Sound.{pair_key}
 use Rattle.kinds.specs.RangeLaws.{pair_key_more, pair_fits_lem}
-use borrow.Author.Rules.{rules}
 use Rattle.kinds.proofs.pairs_fit.Goals as goal
 
 pub loop-q-init : goal.loop-q-init

@@ -1,11 +1,7 @@
-use mathlib.Core.Path.{◌≡◌, sym, ◌∙◌, refl}
+use mathlib.Core.Path.{◌≡◌}
 use Prim.Native.Nat.{◌-◌}
-use native.Mathlib.Omega.{arith}
-use Rattle.vocabulary.specs.StopsAndZeros.{stopped, passed}
-use Rattle.vocabulary.specs.Least.{Passing, pass_from, pass_on, pass_end, all_fails}
+use Rattle.vocabulary.specs.Least.{Passing}
 use Rattle.kinds.specs.Sound.{pair_key, pair_fits}
-use Rattle.kinds.specs.RangeLaws.{pair_key_more, pair_fits_lem}
-use borrow.Author.Rules.{rules}
 use Rattle.kinds.proofs.pairs_fit.Given as goal
 
 abbrev pub invariant-loop-q : goal.invariant-loop-q

@@ -1,10 +1,6 @@
-use mathlib.Core.Path.{◌≡◌, sym, ◌∙◌, ap}
+use mathlib.Core.Path.{◌≡◌}
 use Prim.Native.Nat.{◌-◌, ◌*◌, ◌≤◌}
-use native.Mathlib.Nat.{le_antisymm}
-use native.Mathlib.Omega.{arith}
 use Rattle.kinds.specs.Tasks.{pairs_in}
-use Rattle.kinds.specs.RangeLaws.{pairs_none, pairs_more}
-use borrow.Author.Rules.{rules}
 use Rattle.kinds.proofs.pairs_in.Given as goal
 
 abbrev pub invariant-loop-k : goal.invariant-loop-k

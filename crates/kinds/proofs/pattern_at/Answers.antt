@@ -1,6 +1,5 @@
 use Rattle.kinds.specs.Tasks.{pattern_in}
 use borrow.Author.Tests.{lt-ltb, le-ltb}
-use borrow.Author.Rules.{rules}
 use Rattle.kinds.proofs.pattern_at.Goals as goal
 
 pub returns-then-k-ge-MOST_PATTERNS : goal.returns-then-k-ge-MOST_PATTERNS

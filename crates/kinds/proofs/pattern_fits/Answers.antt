@@ -1,7 +1,5 @@
 use native.Mathlib.Omega.{arith}
-use Rattle.vocabulary.specs.StopsAndZeros.{stopped, passed}
 use Rattle.kinds.proofs.PatternWalk.{heading_facts, one_heading, one_pairs, one_fits}
-use borrow.Author.Rules.{rules}
 use Rattle.std.proofs.Common.{sym, ◌∙◌}
 use Rattle.kinds.proofs.pattern_fits.Goals as goal
 

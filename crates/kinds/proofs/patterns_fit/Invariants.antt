@@ -1,9 +1,6 @@
 use Prim.Native.Nat.{◌-◌}
-use native.Mathlib.Omega.{arith}
-use borrow.Author.Tests.{not-true, not-false}
 use Rattle.kinds.specs.Tasks.{tasks_of, patterns_of}
-use Rattle.kinds.proofs.PatternWalk.{Walking, walk_from_lem, walk_stop, walk_facts, walk_turn, tested_no, tested_yes}
-use borrow.Author.Rules.{rules}
+use Rattle.kinds.proofs.PatternWalk.{Walking}
 use Rattle.kinds.proofs.patterns_fit.Given as goal
 
 abbrev pub invariant-loop-k : goal.invariant-loop-k

@@ -1,7 +1,5 @@
 use borrow.Author.Tests.{not-true, not-false}
-use Rattle.vocabulary.specs.StopsAndZeros.{stopped, passed}
 use Rattle.kinds.specs.SoundByTests.{few_tasks, not_opening, not_tasks, not_cycle, not_patterns_few, patterns_asked, not_patterns, too_many, all_in, no_cycle_lem}
-use borrow.Author.Rules.{rules}
 use Rattle.std.proofs.Common.{sym, ◌∙◌}
 use Rattle.kinds.proofs.sound_cycle.Goals as goal
 

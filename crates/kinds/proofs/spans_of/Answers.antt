@@ -2,7 +2,6 @@ use native.Mathlib.Omega.{arith}
 use Rattle.vocabulary.specs.Test.{both}
 use Rattle.kinds.specs.Limits.{holds, periods}
 use Rattle.kinds.specs.RangeLaws.{holds_at, multiple_some, shares_low, reach_low, spans_none, spans_some}
-use borrow.Author.Rules.{rules}
 use Rattle.kinds.proofs.spans_of.Goals as goal
 
 pub returns-then-p-eq0 : goal.returns-then-p-eq0

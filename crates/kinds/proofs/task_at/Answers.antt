@@ -1,6 +1,5 @@
 use Rattle.kinds.specs.Tasks.{task_in}
 use borrow.Author.Tests.{lt-ltb, le-ltb}
-use borrow.Author.Rules.{rules}
 use Rattle.kinds.proofs.task_at.Goals as goal
 
 pub returns-then-i-ge-MOST_TASKS : goal.returns-then-i-ge-MOST_TASKS

@@ -7,25 +7,20 @@ use Rattle.loops.specs.LentLinks.{inside, linked}
 use borrow.Author.Rules.{rules}
 use Rattle.loops.proofs.all_linked.Goals as goal
 
--- src/lib.rt:27:5
 pub loop-k-init : goal.loop-k-init
 loop-k-init c = pass_from _ _
 
--- src/lib.rt:30:13
 pub returns-then-n-place : goal.returns-then-n-place
 unfolding linked
 returns-then-n-place c = sym (all_fails _ _ _ c.loop-k-test.true (start_over _ _ _ c.place.ensures.0 c.if-n-place.true))
 
--- src/lib.rt:33:13
 pub returns-then-n-place-2 : goal.returns-then-n-place-2
 unfolding linked
 returns-then-n-place-2 c = sym (all_fails _ _ _ c.loop-k-test.true (end_over _ _ _ c.place.ensures.0 c.if-n-place.false c.place-in-loop-k.ensures.0 c.if-n-place-2.true))
 
--- src/lib.rt:27:5
 pub loop-k-preserved : goal.loop-k-preserved
 loop-k-preserved c = pass_on _ _ _ c.loop-k.invariant c.loop-k-test.true (is_inside _ _ _ c.place.ensures.0 c.if-n-place.false c.place-in-loop-k.ensures.0 c.if-n-place-2.false)
 
--- src/lib.rt:23:1
 pub returns : goal.returns
 unfolding linked
 returns c = sym (pass_end _ _ _ c.loop-k.invariant c.loop-k-test.false)

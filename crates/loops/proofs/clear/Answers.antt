@@ -6,22 +6,17 @@ use lib.ListN.{length}
 use borrow.Author.Rules.{rules}
 use Rattle.loops.proofs.clear.Goals as goal
 
--- src/lib.rt:17:5
 pub loop-i-init : goal.loop-i-init
 loop-i-init c = clear_from _
 
--- src/lib.rt:17:5
 pub loop-i-smaller : goal.loop-i-smaller
 loop-i-smaller c = omega (arith, c.loop-i.invariant.long)
 
--- src/lib.rt:17:5
 pub loop-i-preserved : goal.loop-i-preserved
 loop-i-preserved c = clear_on _ _ _ c.loop-i.invariant c.loop-i-test.true
 
--- src/lib.rt:13:1
 pub shape_of-jobs : goal.shape_of-jobs
 shape_of-jobs c = c.loop-i.invariant.long
 
--- src/lib.rt:13:1
 pub returns : goal.returns
 returns c = rows_cleared _ _ _ c.loop-i.invariant c.loop-i-test.false

@@ -7,22 +7,17 @@ use Rattle.loops.proofs.LentLaws.{Nought, lists_cleared}
 use borrow.Author.Rules.{rules}
 use Rattle.loops.proofs.clear_lists.Goals as goal
 
--- src/lib.rt:54:5
 pub loop-k-init : goal.loop-k-init
 loop-k-init c = fill_from _ _ _ _ refl
 
--- src/lib.rt:54:5
 pub loop-k-smaller : goal.loop-k-smaller
 loop-k-smaller c = omega (arith, c.loop-k.invariant.long, c.loop-k-test.true)
 
--- src/lib.rt:54:5
 pub loop-k-preserved : goal.loop-k-preserved
 loop-k-preserved c = fill_on _ _ _ _ _ _ c.loop-k.invariant (omega (arith, c.loop-k.invariant.long, c.loop-k-test.true)) refl
 
--- src/lib.rt:50:1
 pub shape_of-next : goal.shape_of-next
 shape_of-next c = c.loop-k.invariant.long
 
--- src/lib.rt:50:1
 pub returns : goal.returns
 returns c = lists_cleared _ _ _ c.loop-k.invariant (omega (arith, c.loop-k.invariant.long, c.loop-k-test.false))

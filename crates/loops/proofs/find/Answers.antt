@@ -5,18 +5,14 @@ use borrow.Author.Rules.{rules}
 use Rattle.std.proofs.Common.{sym, ◌∙◌}
 use Rattle.loops.proofs.find.Goals as goal
 
--- src/lib.rt:205:9
 pub returns-then-not-has_room : goal.returns-then-not-has_room
 returns-then-not-has_room c = no_room _ _ _ (sym c.has_room.ensures ∙ c.if-not-has_room.true)
 
--- src/lib.rt:208:9
 pub returns-then-not-all_linked : goal.returns-then-not-all_linked
 returns-then-not-all_linked c = not_linked _ _ _ (sym c.has_room.ensures ∙ c.if-not-has_room.false) (sym c.all_linked.ensures ∙ c.if-not-all_linked.true)
 
--- src/lib.rt:210:5
 pub seek_lowest-requires : goal.seek_lowest-requires
 seek_lowest-requires c = search_asked _ _ _ (sym c.has_room.ensures ∙ c.if-not-has_room.false) (sym c.all_linked.ensures ∙ c.if-not-all_linked.false) _ _ refl refl
 
--- src/lib.rt:201:1
 pub returns : goal.returns
 returns c = lowest_in_lem _ _ _ (sym c.has_room.ensures ∙ c.if-not-has_room.false) (sym c.all_linked.ensures ∙ c.if-not-all_linked.false) c.seek_lowest.ensures

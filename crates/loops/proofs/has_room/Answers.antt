@@ -3,14 +3,11 @@ use Rattle.loops.proofs.LentLaws.{other_length, many_links, jobs_decide}
 use borrow.Author.Rules.{rules}
 use Rattle.loops.proofs.has_room.Goals as goal
 
--- src/lib.rt:192:9
 pub returns-then-next-links : goal.returns-then-next-links
 returns-then-next-links c = other_length _ _ _ c.if-next-links.true
 
--- src/lib.rt:195:9
 pub returns-then-links-gt-MOST_LINKS : goal.returns-then-links-gt-MOST_LINKS
 returns-then-links-gt-MOST_LINKS c = many_links _ _ _ c.if-next-links.false c.if-links-gt-MOST_LINKS.true
 
--- src/lib.rt:188:1
 pub returns : goal.returns
 returns c = jobs_decide _ _ _ c.if-next-links.false c.if-links-gt-MOST_LINKS.false _ refl

@@ -2,14 +2,11 @@ use Rattle.graph.specs.SearchRows.{probe_asked, probed_back}
 use borrow.Author.Rules.{rules}
 use Rattle.loops.proofs.loops_at.Goals as goal
 
--- src/lib.rt:121:5
 pub begin_search-requires : goal.begin_search-requires
 begin_search-requires c = record { few_jobs = c.requires.few_jobs; low = c.requires.low }
 
--- src/lib.rt:122:5
 pub probe-requires : goal.probe-requires
 probe-requires c = probe_asked _ _ _ _ _ c.requires c.begin_search.ensures
 
--- src/lib.rt:117:1
 pub returns : goal.returns
 returns c = probed_back _ _ _ _ _ c.requires c.begin_search.ensures _ _ c.probe.ensures

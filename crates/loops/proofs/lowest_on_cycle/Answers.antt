@@ -3,6 +3,5 @@ use mathlib.Core.Path.{◌∙◌, ap}
 use borrow.Author.Rules.{rules}
 use Rattle.loops.proofs.lowest_on_cycle.Goals as goal
 
--- src/lib.rt:214:1
 pub returns : goal.returns
 returns c = (c.find-x.ensures, c.clear_lists.ensures ∙ ap no_lists c.next-1.given, c.clear.ensures ∙ ap no_rows c.jobs-1.given)

@@ -6,46 +6,35 @@ use lib.ListN.{length}
 use borrow.Author.Rules.{rules}
 use Rattle.loops.proofs.probe.Goals as goal
 
--- src/lib.rt:105:5
 pub loop-at-init : goal.loop-at-init
 loop-at-init c = c.requires.started
 
--- src/lib.rt:106:17
 pub offset_bounds-jobs-at : goal.offset_bounds-jobs-at
 offset_bounds-jobs-at c = omega (arith, c.requires.few_jobs, probe_low _ _ _ _ c.requires _ _ _ c.loop-at.invariant c.loop-at-test.true, c.loop-at-test.true)
 
--- src/lib.rt:106:17
 pub slice_copy_out-r : goal.slice_copy_out-r
 slice_copy_out-r c = probe_place _ _ _ _ c.requires _ _ _ c.loop-at.invariant c.loop-at-test.true
 
--- src/lib.rt:107:9
 pub walk-tail-requires : goal.walk-tail-requires
 walk-tail-requires c = probe_asks _ _ _ _ c.requires _ _ _ c.loop-at.invariant c.loop-at-test.true c.wide.ensures.0
 
--- src/lib.rt:109:13
 pub shape_of-jobs-then-tail-eq0 : goal.shape_of-jobs-then-tail-eq0
 shape_of-jobs-then-tail-eq0 c = c.walk-tail.ensures.long ∙ c.loop-at.invariant.long
 
--- src/lib.rt:109:13
 pub returns-then-tail-eq0 : goal.returns-then-tail-eq0
 returns-then-tail-eq0 c = probe_found _ _ _ _ c.requires _ _ _ c.loop-at.invariant c.loop-at-test.true c.wide.ensures.0 _ _ c.walk-tail.ensures c.if-tail-eq0.true
 
--- src/lib.rt:111:9
 pub overflow_add-at : goal.overflow_add-at
 overflow_add-at c = omega (arith, c.requires.few_jobs, probe_low _ _ _ _ c.requires _ _ _ c.loop-at.invariant c.loop-at-test.true, c.loop-at-test.true)
 
--- src/lib.rt:105:5
 pub loop-at-smaller : goal.loop-at-smaller
 loop-at-smaller c = omega (arith, probe_low _ _ _ _ c.requires _ _ _ c.loop-at.invariant c.loop-at-test.true, c.loop-at-test.true)
 
--- src/lib.rt:105:5
 pub loop-at-preserved : goal.loop-at-preserved
 loop-at-preserved c = probe_on _ _ _ _ c.requires _ _ _ c.loop-at.invariant c.loop-at-test.true c.wide.ensures.0 _ _ c.walk-tail.ensures c.if-tail-eq0.false
 
--- src/lib.rt:99:1
 pub shape_of-jobs : goal.shape_of-jobs
 shape_of-jobs c = c.loop-at.invariant.long
 
--- src/lib.rt:99:1
 pub returns : goal.returns
 returns c = probe_end _ _ _ _ c.requires _ _ _ c.loop-at.invariant c.loop-at-test.false

@@ -6,34 +6,26 @@ use lib.ListN.{length}
 use borrow.Author.Rules.{rules}
 use Rattle.loops.proofs.seek.Goals as goal
 
--- src/lib.rt:131:5
 pub loop-x-init : goal.loop-x-init
 loop-x-init c = c.requires.started
 
--- src/lib.rt:132:12
 pub loops_at-requires : goal.loops_at-requires
 loops_at-requires c = search_asks _ _ _ _ _ c.requires c.loop-x.invariant c.loop-x-test.true
 
--- src/lib.rt:133:13
 pub shape_of-jobs-then-loops_at : goal.shape_of-jobs-then-loops_at
 shape_of-jobs-then-loops_at c = c.loops_at.ensures.long ∙ c.loop-x.invariant.long
 
--- src/lib.rt:133:13
 pub returns-then-loops_at : goal.returns-then-loops_at
 returns-then-loops_at c = search_found _ _ _ _ _ c.requires c.loop-x.invariant c.loop-x-test.true _ _ c.loops_at.ensures c.if-loops_at.true
 
--- src/lib.rt:131:5
 pub loop-x-smaller : goal.loop-x-smaller
 loop-x-smaller c = omega (arith, c.loop-x.invariant.long, c.loop-x-test.true)
 
--- src/lib.rt:131:5
 pub loop-x-preserved : goal.loop-x-preserved
 loop-x-preserved c = search_on _ _ _ _ _ c.requires c.loop-x.invariant c.loop-x-test.true _ _ c.loops_at.ensures c.if-loops_at.false
 
--- src/lib.rt:126:1
 pub shape_of-jobs : goal.shape_of-jobs
 shape_of-jobs c = c.loop-x.invariant.long
 
--- src/lib.rt:126:1
 pub returns : goal.returns
 returns c = search_end _ _ _ _ _ c.loop-x.invariant c.loop-x-test.false

@@ -5,30 +5,23 @@ use lib.ListN.{length}
 use borrow.Author.Rules.{rules}
 use Rattle.loops.proofs.thread.Goals as goal
 
--- src/lib.rt:29:5
 pub loop-k-init : goal.loop-k-init
 loop-k-init c = made_from _ _ _ c.requires
 
--- src/lib.rt:32:17
 pub slice_copy_out-r : goal.slice_copy_out-r
 slice_copy_out-r c = thread_place _ _ _ _ _ _ c.requires c.loop-k.invariant c.loop-k-test.true c.place-a.ensures.0
 
--- src/lib.rt:33:19
 pub overflow_cast-next : goal.overflow_cast-next
 overflow_cast-next c = omega (arith, thread_low _ _ _ _ _ _ c.requires c.loop-k.invariant c.loop-k-test.true c.place-a.ensures.0)
 
--- src/lib.rt:33:9
 pub bounds-next-k : goal.bounds-next-k
 bounds-next-k c = omega (arith, c.loop-k.invariant.next_long, c.loop-k-test.true)
 
--- src/lib.rt:34:9
 pub bounds-jobs-a : goal.bounds-jobs-a
 bounds-jobs-a c = thread_place _ _ _ _ _ _ c.requires c.loop-k.invariant c.loop-k-test.true c.place-a.ensures.0
 
--- src/lib.rt:29:5
 pub loop-k-preserved : goal.loop-k-preserved
 loop-k-preserved c = made_on _ _ _ _ _ _ c.requires c.loop-k.invariant c.loop-k-test.true c.place-a.ensures.0
 
--- src/lib.rt:24:1
 pub returns : goal.returns
 returns c = made_end _ _ _ _ _ c.loop-k.invariant c.loop-k-test.false

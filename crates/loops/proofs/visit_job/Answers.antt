@@ -5,46 +5,35 @@ use native.Mathlib.Omega.{arith}
 use borrow.Author.Rules.{rules}
 use Rattle.loops.proofs.visit_job.Goals as goal
 
--- src/lib.rt:48:9
 pub returns-then-y-x : goal.returns-then-y-x
 returns-then-y-x c = visit_found _ _ _ _ _ c.requires c.place-y.ensures.0 c.if-y-x.true
 
--- src/lib.rt:51:9
 pub returns-then-y-x-2 : goal.returns-then-y-x-2
 returns-then-y-x-2 c = visit_below _ _ _ _ _ c.requires c.place-y.ensures.0 c.if-y-x-2.true
 
--- src/lib.rt:53:13
 pub slice_copy_out-r : goal.slice_copy_out-r
 slice_copy_out-r c = visit_place _ _ _ _ _ c.requires c.place-y.ensures.0
 
--- src/lib.rt:55:9
 pub returns-then-wide-x : goal.returns-then-wide-x
 returns-then-wide-x c = visit_seen _ _ _ _ _ c.requires c.place-y.ensures.0 c.if-y-x.false (sym c.wide.ensures.0 ∙ c.if-wide-x.true)
 
--- src/lib.rt:57:5
 pub bounds-jobs-y : goal.bounds-jobs-y
 bounds-jobs-y c = visit_place _ _ _ _ _ c.requires c.place-y.ensures.0
 
--- src/lib.rt:58:13
 pub offset_bounds-jobs-tail : goal.offset_bounds-jobs-tail
 offset_bounds-jobs-tail c = omega (arith, visit_low _ _ _ _ _ c.requires c.place-y.ensures.0)
 
--- src/lib.rt:58:13
 pub slice_copy_out-q : goal.slice_copy_out-q
 slice_copy_out-q c = visit_room _ _ _ _ _ c.requires c.place-y.ensures.0 c.if-y-x.false (λ e. c.if-wide-x.false (c.wide.ensures.0 ∙ e))
 
--- src/lib.rt:59:5
 pub offset_bounds-jobs-tail-2 : goal.offset_bounds-jobs-tail-2
 offset_bounds-jobs-tail-2 c = omega (arith, visit_low _ _ _ _ _ c.requires c.place-y.ensures.0)
 
--- src/lib.rt:59:5
 pub bounds-jobs-tail : goal.bounds-jobs-tail
 bounds-jobs-tail c = visit_room _ _ _ _ _ c.requires c.place-y.ensures.0 c.if-y-x.false (λ e. c.if-wide-x.false (c.wide.ensures.0 ∙ e))
 
--- src/lib.rt:60:5
 pub overflow_add-result : goal.overflow_add-result
 overflow_add-result c = omega (arith, visit_low _ _ _ _ _ c.requires c.place-y.ensures.0)
 
--- src/lib.rt:41:1
 pub returns : goal.returns
 returns c = visit_new _ _ _ _ _ c.requires c.place-y.ensures.0 c.if-y-x.false (λ e. c.if-wide-x.false (c.wide.ensures.0 ∙ e))

@@ -3,34 +3,26 @@ use Rattle.graph.specs.SearchRows.{SearchWalking, walk_from_lem, walk_asks, walk
 use borrow.Author.Rules.{rules}
 use Rattle.loops.proofs.walk.Goals as goal
 
--- src/lib.rt:78:5
 pub loop-i-init : goal.loop-i-init
 loop-i-init c = walk_from_lem _ _ _ _ _ _ c.requires c.wide-i.ensures.0
 
--- src/lib.rt:79:9
 pub visit_job-t-requires : goal.visit_job-t-requires
 visit_job-t-requires c = walk_asks _ _ _ _ _ _ c.requires _ _ _ c.loop-i.invariant c.loop-i-test.true
 
--- src/lib.rt:81:13
 pub returns-then-t-eq0 : goal.returns-then-t-eq0
 returns-then-t-eq0 c = walk_found _ _ _ _ _ _ c.requires _ _ _ c.loop-i.invariant c.loop-i-test.true _ _ c.visit_job-t.ensures c.if-t-eq0.true
 
--- src/lib.rt:83:19
 pub bounds-next-i : goal.bounds-next-i
 bounds-next-i c = walk_next _ _ _ _ _ _ c.requires _ _ _ c.loop-i.invariant c.loop-i-test.true
 
--- src/lib.rt:78:5
 pub loop-i-smaller : goal.loop-i-smaller
 loop-i-smaller c = walk_less _ _ _ _ _ _ c.requires _ _ _ c.loop-i.invariant c.loop-i-test.true c.place-i.ensures.0
 
--- src/lib.rt:78:5
 pub loop-i-preserved : goal.loop-i-preserved
 loop-i-preserved c = walk_on _ _ _ _ _ _ c.requires _ _ _ c.loop-i.invariant c.loop-i-test.true _ _ c.visit_job-t.ensures c.if-t-eq0.false c.place-i.ensures.0
 
--- src/lib.rt:64:1
 pub shape_of-jobs : goal.shape_of-jobs
 shape_of-jobs c = c.loop-i.invariant.long
 
--- src/lib.rt:64:1
 pub returns : goal.returns
 returns c = walk_end _ _ _ _ _ _ c.requires _ _ _ c.loop-i.invariant c.loop-i-test.false

@@ -2,14 +2,11 @@ use Rattle.network.specs.Outcome.{first_low, name_is}
 use borrow.Author.Rules.{rules}
 use Rattle.network.proofs.name.Goals as goal
 
--- src/lib.rt:72:9
 pub job_at-j-requires : goal.job_at-j-requires
 job_at-j-requires c = c.requires.job _ (first_low _ _ _ c.requires _ c.first_of-x.ensures)
 
--- src/lib.rt:73:9
 pub load_of-load-requires : goal.load_of-load-requires
 load_of-load-requires c = c.requires.load
 
--- src/lib.rt:66:1
 pub returns : goal.returns
 returns c = name_is c.args.f _ _ c.wide-n.ensures.0 c.first_of-x.ensures c.job_at-j.ensures c.load_of-load.ensures

@@ -4,14 +4,11 @@ use Rattle.kinds.specs.SoundByTests.{counts_none, counts_found}
 use borrow.Author.Rules.{rules}
 use Rattle.network.proofs.solve.Goals as goal
 
--- src/lib.rt:124:9
 pub returns-then-f-eq0 : goal.returns-then-f-eq0
 returns-then-f-eq0 c = unsolved _ _ _ c.none.ensures (counts_none _ c.counts_of-f.ensures c.if-f-eq0.true)
 
--- src/lib.rt:126:5
 pub solve_in-requires : goal.solve_in-requires
 solve_in-requires c = numbered_tables _ _ (counts_found _ c.counts_of-f.ensures c.if-f-eq0.false)
 
--- src/lib.rt:119:1
 pub returns : goal.returns
 returns c = solved_as _ _ _ _ (tables_are _ _ (counts_found _ c.counts_of-f.ensures c.if-f-eq0.false)) c.solve_in.ensures

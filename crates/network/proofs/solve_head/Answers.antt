@@ -3,14 +3,11 @@ use Rattle.network.specs.Outcome.{unsolved_head, solved_head}
 use borrow.Author.Rules.{rules}
 use Rattle.network.proofs.solve_head.Goals as goal
 
--- src/lib.rt:146:9
 pub returns-then-f-eq0 : goal.returns-then-f-eq0
 returns-then-f-eq0 c = unsolved_head _ _ _ (whole_none _ _ _ c.read_whole-f.ensures c.if-f-eq0.true) c.none.ensures
 
--- src/lib.rt:148:5
 pub solve_in-requires : goal.solve_in-requires
 solve_in-requires c = whole_found _ _ _ c.read_whole-f.ensures c.if-f-eq0.false
 
--- src/lib.rt:137:1
 pub returns : goal.returns
 returns c = solved_head _ _ _ _ _ _ (whole_some _ _ _ c.read_whole-f.ensures c.if-f-eq0.false) c.solve_in.ensures

@@ -2,10 +2,8 @@ use Rattle.network.specs.Outcome.{name_asked, solved_for}
 use borrow.Author.Rules.{rules}
 use Rattle.network.proofs.solve_in.Goals as goal
 
--- src/lib.rt:114:5
 pub name-requires : goal.name-requires
 name-requires c = name_asked _ _ _ _ c.requires _ _ _ _ _ c.solve_sized-p.ensures
 
--- src/lib.rt:101:1
 pub returns : goal.returns
 returns c = solved_for _ _ _ _ c.requires _ _ _ _ _ c.solve_sized-p.ensures c.name.ensures

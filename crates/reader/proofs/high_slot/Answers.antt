@@ -8,8 +8,5 @@ pub returns-then-there-eq0 : goal.returns-then-there-eq0
 unfolding least
 returns-then-there-eq0 c = rw c.if-there-eq0.true
 
--- GONE slice-bounds-first-high-end
--- part-first-high-end c = omega arith
-
 pub returns : goal.returns
 returns c = high_in_part _ _ _ _ (omega arith) c.first_high.ensures

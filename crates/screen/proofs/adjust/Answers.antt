@@ -4,6 +4,5 @@ use mathlib.Core.Path.{ap₂, ◌∙◌}
 use borrow.Author.Rules.{rules}
 use Rattle.screen.proofs.adjust.Goals as goal
 
--- src/lib.rt:113:1
 pub returns : goal.returns
 returns c = answered _ _ _ c.solve-f.ensures (c.adjusted_of.ensures _ c.solve-f.ensures.found ∙ ap₂ (adjusted_of _) c.releases-1.given c.deadlines-1.given)

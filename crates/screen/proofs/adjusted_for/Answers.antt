@@ -1,6 +1,5 @@
 use borrow.Author.Rules.{rules}
 use Rattle.screen.proofs.adjusted_for.Goals as goal
 
--- src/lib.rt:106:1
 pub returns : goal.returns
 returns c = c.adjusted_of.ensures _ c.found.ensures

@@ -3,6 +3,5 @@ use mathlib.Core.Path.{◌∙◌}
 use borrow.Author.Rules.{rules}
 use Rattle.screen.proofs.adjusted_head.Goals as goal
 
--- src/lib.rt:121:1
 pub returns : goal.returns
 returns c = c.adjusted_of.ensures _ c.found_head.ensures ∙ adjusted_is _ _ _

@@ -2,6 +2,5 @@ use Rattle.screen.proofs.FoundLaws.{screened}
 use borrow.Author.Rules.{rules}
 use Rattle.screen.proofs.screen_head.Goals as goal
 
--- src/lib.rt:99:1
 pub returns : goal.returns
 returns c = screened _ (c.finding_of.ensures _ c.found_head.ensures)

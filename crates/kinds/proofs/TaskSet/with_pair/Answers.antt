@@ -3,7 +3,6 @@ use native.Mathlib.Omega.{arith}
 use borrow.Author.Tests.{eq-eqb, ne_eqb, lt-ltb, le-ltb, le-leb, lt-leb}
 use Rattle.kinds.specs.Build.{with_pair}
 use Rattle.kinds.specs.RangeLaws.{pairs_each}
-use borrow.Author.Rules.{rules}
 use Rattle.kinds.proofs.TaskSet.with_pair.Goals as goal
 
 pub returns-then-n-eq0 : goal.returns-then-n-eq0

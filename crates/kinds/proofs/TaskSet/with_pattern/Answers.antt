@@ -1,6 +1,5 @@
 use borrow.Author.Tests.{le-leb, lt-leb}
 use Rattle.kinds.specs.Build.{with_pattern}
-use borrow.Author.Rules.{rules}
 use Rattle.kinds.proofs.TaskSet.with_pattern.Goals as goal
 
 pub returns-then-k-ge-MOST_PATTERNS : goal.returns-then-k-ge-MOST_PATTERNS

@@ -1,6 +1,5 @@
 use borrow.Author.Tests.{le-leb, lt-leb}
 use Rattle.kinds.specs.Build.{with_task}
-use borrow.Author.Rules.{rules}
 use Rattle.kinds.proofs.TaskSet.with_task.Goals as goal
 
 pub returns-then-i-ge-MOST_TASKS : goal.returns-then-i-ge-MOST_TASKS

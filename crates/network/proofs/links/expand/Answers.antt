@@ -3,14 +3,11 @@ use mathlib.Core.Path.{refl}
 use borrow.Author.Rules.{rules}
 use Rattle.network.proofs.links.expand.Goals as goal
 
--- src/links.rt:137:5
 pub fill_bases-requires : goal.fill_bases-requires
 fill_bases-requires c = bases_asked _ _ _ _ c.args.links.now c.requires _ refl
 
--- src/links.rt:138:5
 pub put_patterns-requires : goal.put_patterns-requires
 put_patterns-requires c = wired_asks _ _ _ _ c.args.links.now c.requires _ c.fill_bases.ensures
 
--- src/links.rt:126:1
 pub returns : goal.returns
 returns c = wired _ _ _ _ _ c.requires _ c.fill_bases.ensures _ _ c.put_patterns.ensures

@@ -5,26 +5,20 @@ use Prim.Native.Nat.{◌-◌}
 use borrow.Author.Rules.{rules}
 use Rattle.network.proofs.links.fill_bases.Goals as goal
 
--- src/links.rt:68:5
 pub loop-i-init : goal.loop-i-init
 loop-i-init c = base_from _ _ _ c.requires
 
--- src/links.rt:69:9
 pub bounds-base-i : goal.bounds-base-i
 bounds-base-i c = omega (arith, c.requires.few, c.loop-i-test.true)
 
--- src/links.rt:71:14
 pub nonzero_div-b : goal.nonzero_div-b
 nonzero_div-b c = omega (arith, base_some _ _ _ _ _ _ c.requires c.loop-i.invariant c.loop-i-test.true c.task_at-t.ensures)
 
--- src/links.rt:71:9
 pub overflow_add-b : goal.overflow_add-b
 overflow_add-b c = omega (arith, base_room _ _ _ _ _ _ c.requires c.loop-i.invariant c.loop-i-test.true c.task_at-t.ensures)
 
--- src/links.rt:68:5
 pub loop-i-preserved : goal.loop-i-preserved
 loop-i-preserved c = base_on _ _ _ _ _ _ c.requires c.loop-i.invariant c.loop-i-test.true c.task_at-t.ensures
 
--- src/links.rt:60:1
 pub returns : goal.returns
 returns c = base_end _ _ _ _ _ c.loop-i.invariant c.loop-i-test.false

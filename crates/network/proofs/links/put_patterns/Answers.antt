@@ -5,30 +5,23 @@ use Prim.Native.Nat.{◌-◌}
 use borrow.Author.Rules.{rules}
 use Rattle.network.proofs.links.put_patterns.Goals as goal
 
--- src/links.rt:114:5
 pub loop-k-init : goal.loop-k-init
 loop-k-init c = spread_from _ _ _ _ _
 
--- src/links.rt:116:13
 pub stride_of-s-requires : goal.stride_of-s-requires
 stride_of-s-requires c = spread_tasks _ _ _ _ _ _ _ _ _ c.requires c.loop-k.invariant c.loop-k-test.true c.pattern_at-p.ensures
 
--- src/links.rt:118:9
 pub put_pairs-e-requires : goal.put_pairs-e-requires
 put_pairs-e-requires c = spread_asks _ _ _ _ _ _ _ _ _ c.requires c.loop-k.invariant c.loop-k-test.true c.pattern_at-p.ensures c.stride_of-s.ensures c.wide-m.ensures.0
 
--- src/links.rt:119:9
 pub overflow_add-used : goal.overflow_add-used
 overflow_add-used c = omega (arith, spread_room _ _ _ _ _ _ _ _ _ c.requires c.loop-k.invariant c.loop-k-test.true c.pattern_at-p.ensures c.stride_of-s.ensures c.wide-m.ensures.0)
 
--- src/links.rt:114:5
 pub loop-k-preserved : goal.loop-k-preserved
 loop-k-preserved c = spread_on _ _ _ _ _ _ _ _ _ c.requires c.loop-k.invariant c.loop-k-test.true c.pattern_at-p.ensures c.stride_of-s.ensures c.wide-m.ensures.0 _ _ c.put_pairs-e.ensures
 
--- src/links.rt:97:1
 pub shape_of-links : goal.shape_of-links
 shape_of-links c = c.loop-k.invariant.made.long
 
--- src/links.rt:97:1
 pub returns : goal.returns
 returns c = spread_end _ _ _ _ _ _ _ _ _ c.loop-k.invariant c.loop-k-test.false

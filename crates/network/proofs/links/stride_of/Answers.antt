@@ -4,18 +4,14 @@ use native.Mathlib.Omega.{arith}
 use borrow.Author.Rules.{rules}
 use Rattle.network.proofs.links.stride_of.Goals as goal
 
--- src/links.rt:86:24
 pub nonzero_div-h : goal.nonzero_div-h
 nonzero_div-h c = omega (arith, stride_some 0 _ [] _ _ c.requires c.wide-i.ensures.0 c.wide-j.ensures.0 c.task_at-s.ensures c.task_at-t.ensures c.common_multiple-c.ensures)
 
--- src/links.rt:90:16
 pub nonzero_div-result : goal.nonzero_div-result
 nonzero_div-result c = omega (arith, stride_some₁ 0 _ [] _ _ c.requires c.wide-i.ensures.0 c.wide-j.ensures.0 c.task_at-s.ensures c.task_at-t.ensures c.common_multiple-c.ensures)
 
--- src/links.rt:92:17
 pub nonzero_div-result-2 : goal.nonzero_div-result-2
 nonzero_div-result-2 c = omega (arith, stride_some₂ 0 _ [] _ _ c.requires c.wide-i.ensures.0 c.wide-j.ensures.0 c.task_at-s.ensures c.task_at-t.ensures c.common_multiple-c.ensures)
 
--- src/links.rt:77:1
 pub returns : goal.returns
 returns c = stride_is _ _ c.args.base.now _ _ c.requires c.wide-i.ensures.0 c.wide-j.ensures.0 c.task_at-s.ensures c.task_at-t.ensures c.common_multiple-c.ensures c.wide-repeats.ensures.0

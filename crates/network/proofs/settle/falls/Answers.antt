@@ -8,26 +8,20 @@ use lib.ListN.{length}
 use borrow.Author.Rules.{rules}
 use Rattle.network.proofs.settle.falls.Goals as goal
 
--- src/settle.rt:100:5
 pub loop-k-init : goal.loop-k-init
 loop-k-init c = fall_from _ _
 
--- src/settle.rt:102:17
 pub bounds-jobs-place : goal.bounds-jobs-place
 bounds-jobs-place c = fall_start _ c.args.jobs.now _ c.requires c.loop-k-test.true c.place.ensures.0
 
--- src/settle.rt:103:17
 pub bounds-jobs-place-in-loop-k : goal.bounds-jobs-place-in-loop-k
 bounds-jobs-place-in-loop-k c = fall_end _ c.args.jobs.now _ c.requires c.loop-k-test.true c.place-in-loop-k.ensures.0
 
--- src/settle.rt:105:13
 pub returns-then-p-q : goal.returns-then-p-q
 returns-then-p-q c = λ e. clash e refl
 
--- src/settle.rt:100:5
 pub loop-k-preserved : goal.loop-k-preserved
 loop-k-preserved c = fall_on _ _ _ c.loop-k.invariant c.place.ensures.0 c.place-in-loop-k.ensures.0 c.if-p-q.false
 
--- src/settle.rt:95:1
 pub returns : goal.returns
 returns c = λ e. fall_all _ _ _ c.loop-k.invariant c.loop-k-test.false

@@ -5,14 +5,11 @@ use native.Mathlib.Omega.{arith}
 use borrow.Author.Rules.{rules}
 use Rattle.network.proofs.settle.hasten.Goals as goal
 
--- src/settle.rt:41:9
 pub capped-s-requires : goal.capped-s-requires
 capped-s-requires c = (omega (arith, column_at 2 c.args.jobs.now c.args.b, c.requires.late), omega (arith, column_at 0 c.args.jobs.now c.args.b, c.requires.light_to))
 
--- src/settle.rt:44:9
 pub returns-then-p-s : goal.returns-then-p-s
 returns-then-p-s c = raises 2 1 _ _ _ c.capped-s.ensures _ refl refl refl c.requires.from c.if-p-s.true
 
--- src/settle.rt:35:1
 pub returns : goal.returns
 returns c = not_raises 2 1 _ _ _ c.capped-s.ensures c.if-p-s.false

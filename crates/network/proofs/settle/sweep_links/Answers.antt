@@ -9,33 +9,26 @@ use borrow.Author.Rules.{rules}
 use Rattle.network.proofs.settle.sweep_links.Goals.{then-hop, else-hop}
 use Rattle.network.proofs.settle.sweep_links.Goals as goal
 
--- src/settle.rt:77:5
 pub loop-k-init : goal.loop-k-init
 loop-k-init c = sweep_from _ _ _ c.requires
 
--- src/settle.rt:79:17
 pub offset_bounds-links-i : goal.offset_bounds-links-i
 offset_bounds-links-i c = omega (arith, turn_low c.args.back _ _ c.loop-k-test.true, c.turned-i.ensures)
 
--- src/settle.rt:79:17
 pub bounds-links-i : goal.bounds-links-i
 bounds-links-i c = omega (arith, turn_low c.args.back _ _ c.loop-k-test.true, c.turned-i.ensures)
 
--- src/settle.rt:80:12
 pub hop-requires : goal.hop-requires
 hop-requires c = sweep_hop _ _ _ c.requires _ _ _ c.loop-k.invariant c.loop-k-test.true c.turned-i.ensures c.place.ensures.0 c.place-in-loop-k.ensures.0
 
--- src/settle.rt:77:5
 pub loop-k-preserved : goal.loop-k-preserved
 loop-k-preserved c = elim c.if-hop.branch [
     then-hop w ↦ sweep_on _ _ _ c.requires _ _ _ c.loop-k.invariant c.loop-k-test.true c.turned-i.ensures c.place.ensures.0 c.place-in-loop-k.ensures.0 _ _ _ c.hop.ensures (λ e. clash w.changed-is e)
     | else-hop w ↦ sweep_on _ _ _ c.requires _ _ _ c.loop-k.invariant c.loop-k-test.true c.turned-i.ensures c.place.ensures.0 c.place-in-loop-k.ensures.0 _ _ _ c.hop.ensures (λ e. (sym w.changed-is ∙ e, w.if-hop.false))
   ]
 
--- src/settle.rt:71:1
 pub shape_of-jobs : goal.shape_of-jobs
 shape_of-jobs c = c.loop-k.invariant.long
 
--- src/settle.rt:71:1
 pub returns : goal.returns
 returns c = sweep_end _ _ _ c.requires _ _ _ c.loop-k.invariant c.loop-k-test.false

@@ -1,10 +1,8 @@
 use borrow.Author.Rules.{rules}
 use Rattle.network.proofs.settle.turned.Goals as goal
 
--- src/settle.rt:63:1
 pub returns-then-back : goal.returns-then-back
 returns-then-back c = rw c.if-back.true
 
--- src/settle.rt:63:1
 pub returns-else-back : goal.returns-else-back
 returns-else-back c = rw c.if-back.false

@@ -5,46 +5,35 @@ use Prim.Native.Nat.{◌-◌}
 use borrow.Author.Rules.{rules}
 use Rattle.network.proofs.sums.job_at.Goals as goal
 
--- src/sums.rt:23:5
 pub loop-i-init : goal.loop-i-init
 loop-i-init c = name_from _ _
 
--- src/sums.rt:25:22
 pub nonzero_div-h : goal.nonzero_div-h
 nonzero_div-h c = omega (arith, name_some _ _ _ _ _ 0 c.requires c.loop-i.invariant c.loop-i-test.true c.task_at-t.ensures)
 
--- src/sums.rt:28:23
 pub overflow_cast-result : goal.overflow_cast-result
 overflow_cast-result c = omega (arith, c.requires.few, c.loop-i-test.true)
 
--- src/sums.rt:29:22
 pub overflow_cast-result-then-y-k : goal.overflow_cast-result-then-y-k
 overflow_cast-result-then-y-k c = omega (arith, c.requires.low, c.loop-i.invariant.behind)
 
--- src/sums.rt:27:13
 pub returns-then-y-k : goal.returns-then-y-k
 returns-then-y-k c = name_hit _ _ _ _ _ _ c.requires c.loop-i.invariant c.loop-i-test.true c.task_at-t.ensures c.wide-k.ensures.0 c.if-y-k.true
 
--- src/sums.rt:33:9
 pub overflow_add-i : goal.overflow_add-i
 overflow_add-i c = omega (arith, c.requires.few, c.loop-i-test.true)
 
--- src/sums.rt:23:5
 pub loop-i-smaller : goal.loop-i-smaller
 loop-i-smaller c = omega (arith, c.loop-i-test.true)
 
--- src/sums.rt:23:5
 pub loop-i-preserved : goal.loop-i-preserved
 loop-i-preserved c = name_on _ _ _ _ _ _ c.requires c.loop-i.invariant c.loop-i-test.true c.task_at-t.ensures c.wide-k.ensures.0 c.if-y-k.false
 
--- src/sums.rt:36:15
 pub overflow_cast-result-2 : goal.overflow_cast-result-2
 overflow_cast-result-2 c = omega (arith, c.requires.few, c.loop-i.invariant.seeking.within)
 
--- src/sums.rt:37:14
 pub overflow_cast-result-3 : goal.overflow_cast-result-3
 overflow_cast-result-3 c = omega (arith, c.requires.low, c.loop-i.invariant.behind)
 
--- src/sums.rt:15:1
 pub returns : goal.returns
 returns c = name_end _ _ _ _ c.loop-i.invariant c.loop-i-test.false

@@ -5,34 +5,26 @@ use Prim.Native.Nat.{◌-◌}
 use borrow.Author.Rules.{rules}
 use Rattle.network.proofs.sums.load_of.Goals as goal
 
--- src/sums.rt:50:5
 pub loop-i-init : goal.loop-i-init
 loop-i-init c = load_from _ _
 
--- src/sums.rt:52:29
 pub nonzero_div-sum : goal.nonzero_div-sum
 nonzero_div-sum c = omega (arith, load_some _ _ _ _ c.requires c.loop-i.invariant c.loop-i-test.true c.task_at-t.ensures)
 
--- src/sums.rt:52:16
 pub overflow_mul-sum : goal.overflow_mul-sum
 overflow_mul-sum c = omega (arith, load_low _ _ _ _ c.requires c.loop-i.invariant c.loop-i-test.true c.task_at-t.ensures)
 
--- src/sums.rt:52:9
 pub overflow_add-sum : goal.overflow_add-sum
 overflow_add-sum c = omega (arith, load_room _ _ _ _ c.requires c.loop-i.invariant c.loop-i-test.true c.task_at-t.ensures)
 
--- src/sums.rt:53:9
 pub overflow_add-i : goal.overflow_add-i
 overflow_add-i c = omega (arith, c.requires.few, c.loop-i-test.true)
 
--- src/sums.rt:50:5
 pub loop-i-smaller : goal.loop-i-smaller
 loop-i-smaller c = omega (arith, c.loop-i-test.true)
 
--- src/sums.rt:50:5
 pub loop-i-preserved : goal.loop-i-preserved
 loop-i-preserved c = load_on _ _ _ _ c.requires c.loop-i.invariant c.loop-i-test.true c.task_at-t.ensures
 
--- src/sums.rt:42:1
 pub returns : goal.returns
 returns c = load_end _ _ _ _ c.loop-i.invariant c.loop-i-test.false

@@ -6,34 +6,26 @@ use Prim.Native.Nat.{◌-◌}
 use borrow.Author.Rules.{rules}
 use Rattle.network.proofs.sums.most_links.Goals as goal
 
--- src/sums.rt:67:5
 pub loop-k-init : goal.loop-k-init
 loop-k-init c = bound_from _ _ _
 
--- src/sums.rt:70:37
 pub nonzero_div-h : goal.nonzero_div-h
 nonzero_div-h c = omega (arith, bound_some _ _ _ _ _ c.requires c.loop-k.invariant c.loop-k-test.true c.pattern_at-p.ensures c.wide.ensures.0 c.task_at-t.ensures)
 
--- src/sums.rt:70:16
 pub overflow_mul-sum : goal.overflow_mul-sum
 overflow_mul-sum c = omega (arith, bound_low _ _ _ _ _ c.requires c.loop-k.invariant c.loop-k-test.true c.pattern_at-p.ensures c.wide.ensures.0 c.task_at-t.ensures c.wide-in-loop-k.ensures.0 c.wide-in-loop-k-2.ensures.0)
 
--- src/sums.rt:70:9
 pub overflow_add-sum : goal.overflow_add-sum
 overflow_add-sum c = omega (arith, bound_room _ _ _ _ _ c.requires c.loop-k.invariant c.loop-k-test.true c.pattern_at-p.ensures c.wide.ensures.0 c.task_at-t.ensures c.wide-in-loop-k.ensures.0 c.wide-in-loop-k-2.ensures.0)
 
--- src/sums.rt:71:9
 pub overflow_add-k : goal.overflow_add-k
 overflow_add-k c = omega (arith, c.requires.few, c.loop-k-test.true)
 
--- src/sums.rt:67:5
 pub loop-k-smaller : goal.loop-k-smaller
 loop-k-smaller c = omega (arith, c.loop-k-test.true)
 
--- src/sums.rt:67:5
 pub loop-k-preserved : goal.loop-k-preserved
 loop-k-preserved c = bound_on _ _ _ _ _ c.requires c.loop-k.invariant c.loop-k-test.true c.pattern_at-p.ensures c.wide.ensures.0 c.task_at-t.ensures c.wide-in-loop-k.ensures.0 c.wide-in-loop-k-2.ensures.0
 
--- src/sums.rt:59:1
 pub returns : goal.returns
 returns c = bound_end _ _ _ _ _ c.loop-k.invariant c.loop-k-test.false

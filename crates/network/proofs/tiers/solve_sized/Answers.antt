@@ -2,38 +2,29 @@ use Rattle.network.specs.Outcome.{bound_needs, fits_small, fits_large}
 use borrow.Author.Rules.{rules}
 use Rattle.network.proofs.tiers.solve_sized.Goals as goal
 
--- src/tiers.rt:88:12
 pub most_links-requires : goal.most_links-requires
 most_links-requires c = bound_needs _ _ _ _ c.requires
 
--- src/tiers.rt:89:13
 pub solve_small-requires : goal.solve_small-requires
 solve_small-requires c = fits_small _ _ _ _ c.requires c.wide-n.ensures.0 c.if-n-le256.true c.most_links.ensures c.if-most_links-le512.true
 
--- src/tiers.rt:89:13
 pub shape_of-releases-then-most_links-le512 : goal.shape_of-releases-then-most_links-le512
 shape_of-releases-then-most_links-le512 c = c.solve_small.auto.releases
 
--- src/tiers.rt:89:13
 pub shape_of-deadlines-then-most_links-le512 : goal.shape_of-deadlines-then-most_links-le512
 shape_of-deadlines-then-most_links-le512 c = c.solve_small.auto.deadlines
 
--- src/tiers.rt:89:13
 pub returns-then-most_links-le512 : goal.returns-then-most_links-le512
 returns-then-most_links-le512 c = c.solve_small.ensures
 
--- src/tiers.rt:92:5
 pub solve_large-requires : goal.solve_large-requires
 solve_large-requires c = fits_large _ _ _ _ c.requires
 
--- src/tiers.rt:81:1
 pub shape_of-releases : goal.shape_of-releases
 shape_of-releases c = c.solve_large.auto.releases
 
--- src/tiers.rt:81:1
 pub shape_of-deadlines : goal.shape_of-deadlines
 shape_of-deadlines c = c.solve_large.auto.deadlines
 
--- src/tiers.rt:81:1
 pub returns : goal.returns
 returns c = c.solve_large.ensures

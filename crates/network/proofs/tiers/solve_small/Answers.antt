@@ -5,50 +5,38 @@ use native.Mathlib.Omega.{arith}
 use borrow.Author.Rules.{rules}
 use Rattle.network.proofs.tiers.solve_small.Goals as goal
 
--- src/tiers.rt:63:52
 pub slice_bounds-expand-end : goal.slice_bounds-expand-end
 slice_bounds-expand-end c = refl
 
--- src/tiers.rt:63:9
 pub expand-e-requires : goal.expand-e-requires
 expand-e-requires c = expand_asked _ _ _ _ _ _ c.requires _ refl
 
--- src/tiers.rt:64:29
 pub slice_bounds-links-end : goal.slice_bounds-links-end
 slice_bounds-links-end c = omega (arith, c.expand-e.ensures.few, c.requires.links)
 
--- src/tiers.rt:64:29
 pub slice_bounds-solve_in-end : goal.slice_bounds-solve_in-end
 slice_bounds-solve_in-end c = sym (taken _ _ _ refl c.expand-e.ensures.fits)
 
--- src/tiers.rt:64:42
 pub slice_bounds-next-end : goal.slice_bounds-next-end
 slice_bounds-next-end c = omega (arith, c.expand-e.ensures.few, c.requires.links)
 
--- src/tiers.rt:64:42
 pub slice_bounds-solve_in-end-2 : goal.slice_bounds-solve_in-end-2
 slice_bounds-solve_in-end-2 c = sym (taken _ 512 _ refl (omega (arith, c.expand-e.ensures.few, c.requires.links)))
 
--- src/tiers.rt:64:58
 pub slice_bounds-jobs-end : goal.slice_bounds-jobs-end
 slice_bounds-jobs-end c = omega (arith, c.wide-n.ensures.0, c.requires.jobs)
 
--- src/tiers.rt:64:58
 pub slice_bounds-solve_in-end-3 : goal.slice_bounds-solve_in-end-3
 slice_bounds-solve_in-end-3 c = sym (taken _ 256 _ refl (omega (arith, c.wide-n.ensures.0, c.requires.jobs)))
 
--- src/tiers.rt:64:5
 pub solve_in-requires : goal.solve_in-requires
 solve_in-requires c = solve_asked _ _ _ _ c.requires.numbers _ _ c.expand-e.ensures _ 512 256 _ _ refl refl (omega (arith, c.expand-e.ensures.few, c.requires.links)) c.wide-n.ensures.0 (omega (arith, c.wide-n.ensures.0, c.requires.jobs))
 
--- src/tiers.rt:54:1
 pub shape_of-releases : goal.shape_of-releases
 shape_of-releases c = c.solve_in.auto.releases
 
--- src/tiers.rt:54:1
 pub shape_of-deadlines : goal.shape_of-deadlines
 shape_of-deadlines c = c.solve_in.auto.deadlines
 
--- src/tiers.rt:54:1
 pub returns : goal.returns
 returns c = lowest_in_lem _ _ _ _ c.requires.numbers _ _ c.expand-e.ensures _ _ _ _ _ _ c.solve_in.ensures

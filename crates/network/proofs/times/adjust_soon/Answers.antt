@@ -3,26 +3,20 @@ use Rattle.network.specs.JobTimes.{not_quick, falls_asked, is_quick}
 use borrow.Author.Tests.{not-false}
 use Rattle.network.proofs.times.adjust_soon.Goals as goal
 
--- src/times.rt:72:9
 pub adjust_rows-requires : goal.adjust_rows-requires
 adjust_rows-requires c = c.requires
 
--- src/times.rt:73:9
 pub shape_of-jobs-then-not-adjust_rows : goal.shape_of-jobs-then-not-adjust_rows
 shape_of-jobs-then-not-adjust_rows c = c.adjust_rows.ensures.sized ∙ sym c.requires.own.sized
 
--- src/times.rt:73:9
 pub returns-then-not-adjust_rows : goal.returns-then-not-adjust_rows
 returns-then-not-adjust_rows c = not_quick _ _ _ _ _ _ c.adjust_rows.ensures
 
--- src/times.rt:75:5
 pub falls-requires : goal.falls-requires
 falls-requires c = falls_asked _ _ _ _ _ _ _ c.requires c.adjust_rows.ensures
 
--- src/times.rt:68:1
 pub shape_of-jobs : goal.shape_of-jobs
 shape_of-jobs c = c.adjust_rows.ensures.sized ∙ sym c.requires.own.sized
 
--- src/times.rt:68:1
 pub returns : goal.returns
 returns c = is_quick _ _ _ _ _ _ _ _ c.requires c.adjust_rows.ensures c.if-not-adjust_rows.false c.falls.ensures

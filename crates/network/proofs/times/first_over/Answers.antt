@@ -8,26 +8,20 @@ use lib.ListN.{length}
 use borrow.Author.Rules.{rules}
 use Rattle.network.proofs.times.first_over.Goals as goal
 
--- src/times.rt:107:5
 pub loop-x-init : goal.loop-x-init
 loop-x-init c = seek _ _
 
--- src/times.rt:109:20
 pub overflow_add-r : goal.overflow_add-r
 overflow_add-r c = omega (arith, c.requires.early _ c.loop-x-test.true, c.requires.light _ c.loop-x-test.true)
 
--- src/times.rt:109:20
 pub overflow_add-r-in-loop-x : goal.overflow_add-r-in-loop-x
 overflow_add-r-in-loop-x c = omega (arith, c.requires.early _ c.loop-x-test.true, c.requires.light _ c.loop-x-test.true, c.requires.late _ c.loop-x-test.true)
 
--- src/times.rt:110:13
 pub returns-then-r-gt12000 : goal.returns-then-r-gt12000
 returns-then-r-gt12000 c = hit _ _ _ c.loop-x.invariant (sym (over_is _ _) ∙ lt-ltb _ _ c.if-r-gt12000.true)
 
--- src/times.rt:107:5
 pub loop-x-preserved : goal.loop-x-preserved
 loop-x-preserved c = on _ _ _ c.loop-x.invariant c.loop-x-test.true (sym (over_is _ _) ∙ le-ltb _ _ c.if-r-gt12000.false)
 
--- src/times.rt:102:1
 pub returns : goal.returns
 returns c = miss _ _ _ c.loop-x.invariant c.loop-x-test.false

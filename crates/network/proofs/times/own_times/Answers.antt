@@ -6,30 +6,23 @@ use Prim.Native.Nat.{◌-◌}
 use borrow.Author.Rules.{rules}
 use Rattle.network.proofs.times.own_times.Goals as goal
 
--- src/times.rt:49:5
 pub loop-i-init : goal.loop-i-init
 loop-i-init c = own_from _ _ _ c.requires
 
--- src/times.rt:51:22
 pub nonzero_div-h : goal.nonzero_div-h
 nonzero_div-h c = omega (arith, own_some _ _ _ _ _ _ c.requires c.loop-i.invariant c.loop-i-test.true c.task_at-t.ensures)
 
--- src/times.rt:52:9
 pub put_jobs-requires : goal.put_jobs-requires
 put_jobs-requires c = own_jobs _ _ _ _ _ _ c.requires c.loop-i.invariant c.loop-i-test.true c.task_at-t.ensures c.wide-k.ensures.0
 
--- src/times.rt:53:9
 pub overflow_add-b : goal.overflow_add-b
 overflow_add-b c = omega (arith, own_fits _ _ _ _ _ _ c.requires c.loop-i.invariant c.loop-i-test.true c.task_at-t.ensures c.wide-k.ensures.0)
 
--- src/times.rt:49:5
 pub loop-i-preserved : goal.loop-i-preserved
 loop-i-preserved c = own_on _ _ _ _ _ _ c.requires c.loop-i.invariant c.loop-i-test.true c.task_at-t.ensures c.wide-k.ensures.0 _ c.put_jobs.ensures
 
--- src/times.rt:41:1
 pub shape_of-jobs : goal.shape_of-jobs
 shape_of-jobs c = c.loop-i.invariant.done.sized ∙ sym c.requires.sized
 
--- src/times.rt:41:1
 pub returns : goal.returns
 returns c = own_end _ _ _ _ c.loop-i.invariant c.loop-i-test.false

@@ -5,38 +5,29 @@ use Prim.Native.Nat.{◌-◌}
 use borrow.Author.Rules.{rules}
 use Rattle.network.proofs.times.put_jobs.Goals as goal
 
--- src/times.rt:30:13
 pub overflow_sub-z : goal.overflow_sub-z
 overflow_sub-z c = c.requires.late
 
--- src/times.rt:33:5
 pub loop-n-init : goal.loop-n-init
 loop-n-init c = jobs_from _ _ _ _ _ _ _
 
--- src/times.rt:34:30
 pub overflow_sub-jobs : goal.overflow_sub-jobs
 overflow_sub-jobs c = jobs_low _ _ _ _ _ _ _ c.requires c.loop-n.invariant c.loop-n-test.true
 
--- src/times.rt:34:14
 pub overflow_add-b : goal.overflow_add-b
 overflow_add-b c = omega (arith, jobs_place _ _ _ _ _ _ _ c.requires c.loop-n.invariant c.loop-n-test.true)
 
--- src/times.rt:34:9
 pub bounds-jobs-b : goal.bounds-jobs-b
 bounds-jobs-b c = jobs_place _ _ _ _ _ _ _ c.requires c.loop-n.invariant c.loop-n-test.true
 
--- src/times.rt:35:9
 pub overflow_add-r : goal.overflow_add-r
 overflow_add-r c = omega (arith, jobs_small _ _ _ _ _ _ _ c.requires c.loop-n.invariant c.loop-n-test.true)
 
--- src/times.rt:33:5
 pub loop-n-preserved : goal.loop-n-preserved
 loop-n-preserved c = jobs_on _ _ _ _ _ _ _ c.requires c.loop-n.invariant c.loop-n-test.true
 
--- src/times.rt:24:1
 pub shape_of-jobs : goal.shape_of-jobs
 shape_of-jobs c = c.loop-n.invariant.done.long
 
--- src/times.rt:24:1
 pub returns : goal.returns
 returns c = place_end _ _ _ _ _ _ c.loop-n.invariant.done c.loop-n.invariant.within c.loop-n-test.false

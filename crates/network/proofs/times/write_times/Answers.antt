@@ -10,33 +10,26 @@ use lib.ListN.{length}
 use borrow.Author.Rules.{rules}
 use Rattle.network.proofs.times.write_times.Goals as goal
 
--- src/times.rt:140:5
 pub loop-x-init : goal.loop-x-init
 loop-x-init c = (fill_from _ _ _ _ c.requires.first, fill_from _ _ _ _ c.requires.second)
 
--- src/times.rt:142:13
 pub plain-a-requires : goal.plain-a-requires
 plain-a-requires c = c.requires.low.early _ c.loop-x-test.true
 
--- src/times.rt:143:9
 pub bounds-releases-x : goal.bounds-releases-x
 bounds-releases-x c = omega (arith, c.loop-x.invariant.0.long, c.loop-x-test.true)
 
--- src/times.rt:144:13
 pub left_of-z-requires : goal.left_of-z-requires
 left_of-z-requires c = c.requires.low.late _ c.loop-x-test.true
 
--- src/times.rt:145:9
 pub bounds-deadlines-x : goal.bounds-deadlines-x
 bounds-deadlines-x c = omega (arith, c.loop-x.invariant.1.long, c.loop-x-test.true)
 
--- src/times.rt:140:5
 pub loop-x-preserved : goal.loop-x-preserved
 loop-x-preserved c = (
   fill_on _ _ _ _ _ _ c.loop-x.invariant.0 c.loop-x-test.true (to_z-of_z w32 c.plain-a.result (record { sfits = c.plain-a.type_inv }) ∙ c.plain-a.ensures),
   fill_on _ _ _ _ _ _ c.loop-x.invariant.1 c.loop-x-test.true (to_z-of_z w32 c.left_of-z.result (record { sfits = c.left_of-z.type_inv }) ∙ c.left_of-z.ensures),
 )
 
--- src/times.rt:134:1
 pub returns : goal.returns
 returns c = (filled_table _ _ _ _ _ c.loop-x.invariant.0 c.loop-x-test.false, filled_table _ _ _ _ _ c.loop-x.invariant.1 c.loop-x-test.false)
