@@ -37,7 +37,7 @@ use Rattle.cases.specs.Questions.{task_numbers, heading_numbers, pair_numbers, s
 use Rattle.cases.specs.Questions as ask
 
 -- ---- A
-file_a : List ℕ
+unfoldable pub file_a : List ℕ
 file_a =
     0x01 ∷ 0x03 ∷ 0x01
     ∷ 0x08 ∷ 0x03 ∷ 0x00 ∷ 0x08
@@ -47,46 +47,46 @@ file_a =
     ∷ 1 ∷ 1 ∷ 1 ∷ 2 ∷ 2 ∷ 2 ∷ 2 ∷ 2 ∷ 3 ∷ 3 ∷ 1 ∷ 1 ∷ 1 ∷ 2 ∷ 2 ∷ 2 ∷ 2 ∷ 2 ∷ 3 ∷ 3 ∷ 1 ∷ 1 ∷ 1 ∷ 0 ∷ []
 
 -- the set that the reader hands out, and the slots behind its place
-set_a : Set
+unfoldable pub set_a : Set
 set_a = view (read_of file_a).set
 
-slots_a : List ℕ
+unfoldable pub slots_a : List ℕ
 slots_a = drop 21 file_a
 
 -- ---- the other sets
-set_c : Set
+unfoldable pub set_c : Set
 set_c = set_of 2 ((5, 5, 1, 5) ∷ (5, 2, 0, 5) ∷ (5, 2, 0, 5) ∷ []) []
 
-slots_c : List ℕ
+unfoldable pub slots_c : List ℕ
 slots_c = 1 ∷ 2 ∷ 1 ∷ 2 ∷ 1 ∷ 3 ∷ 1 ∷ 3 ∷ 1 ∷ 0 ∷ []
 
-set_d : Set
+unfoldable pub set_d : Set
 set_d = set_of 1 ((4, 2, 3, 4) ∷ (4, 1, 0, 4) ∷ []) ((0, 1, 0, 0) ∷ [])
 
-slots_d : List ℕ
+unfoldable pub slots_d : List ℕ
 slots_d = 1 ∷ 1 ∷ 2 ∷ 0 ∷ []
 
-set_g : Set
+unfoldable pub set_g : Set
 set_g = set_of 2 ((2, 1, 0, 2) ∷ []) []
 
-set_h : Set
+unfoldable pub set_h : Set
 set_h = set_of 1 ((4, 1, 0, 2) ∷ []) []
 
 -- A with task 2's C = 3
-set_i : Set
+unfoldable pub set_i : Set
 set_i = view (read_of (set file_a 12 3)).set
 
-set_j : Set
+unfoldable pub set_j : Set
 set_j = set_of 3 ((2, 2, 0, 2) ∷ (2, 2, 0, 2) ∷ (2, 2, 0, 2) ∷ []) ((0, 1, 0, 0) ∷ (1, 2, 0, 0) ∷ [])
 
-set_k : Set
+unfoldable pub set_k : Set
 set_k = set_of 1 ((4, 1, 0, 4) ∷ (4, 1, 0, 4) ∷ []) ((0, 1, 0, 0) ∷ (1, 0, 0, 0) ∷ [])
 
-minus : ℕ → ℤ
+unfoldable pub minus : ℕ → ℤ
 minus n = sub_ℕ 0 n
 
 -- ---- the table: each question, and the answer that is printed for it
-cases : List Row
+unfoldable pub cases : List Row
 cases =
     -- A: the whole is 45 bytes, read and accepted.
     (ask.length_of file_a, is 45)
@@ -129,17 +129,3 @@ cases =
     ∷ (ask.playing set_a slots_a (report_after 1 3) 8 2, rows ((3 ∷ []) ∷ (3 ∷ []) ∷ []))
     ∷ (ask.playing set_a slots_a (report_after 1 3) 13 5, rows ((2 ∷ []) ∷ (2 ∷ []) ∷ (2 ∷ []) ∷ (2 ∷ []) ∷ (2 ∷ []) ∷ []))
     ∷ []
-
--- ==== The definitions answer every marked case as it is printed.
-marked_cases : Answered cases
-unfolding cases file_a set_a slots_a set_c slots_c set_d slots_d set_g set_h set_i set_j set_k minus reply number_reply task_numbers heading_numbers pair_numbers set_of
-    silence report_after least greatest all count total table join gather has pack lcm lcm_of reach loops longest.most longest.entry longest.rounds soonest.fewest
-    soonest.due soonest.soonest holds rises pairs_in cycle jobs_of jobs_before jobs cycle_fits release due in_window number_of_job task_of_job job_of_job common
-    link_from link_to repeats links_of links inner edition_of spans_of links_in attributes_fit task_fits pair_key pair_fits pattern_key heading_fits pattern_fits opening_fits
-    sound slot shows shown awake runs ticks first_tick last_tick number_at held got_at and_then times_from task_from on_task tasks_from two_at on_two pairs_from count_from heading_at on_heading
-    on_pairs pattern_from on_pattern patterns_from opening_of middle_from on_opening on_tasks on_middle on_patterns head_from slots_from on_slots on_head read_of high twin mated clashes
-    strays strayed miscounts miscounted against bars broken breaks broken_pair broken_pattern high_at twice_at outside_at wrong_at broken_at first_of plan_rules
-    rules verdict_of pair_links pattern_links cycle_links link_starts link_ends network own_release own_due own_running release_by
-    adjusted_deadline on_cycle load room tight_by screen_rules finding_by releases heard done_at done_of asleep byte_of row_of stands_at in_row ran_of after_of step_of
-    state_at shown_at
-marked_cases = refl

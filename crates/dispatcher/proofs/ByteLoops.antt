@@ -12,8 +12,10 @@ use lib.Seq.{get_or-append-add}
 use lib.Pow.{pow-add, pow_mono}
 use mir.Val.{bool_byte}
 use borrow.Author.Tests.{le-leb, lt-leb, le-ltb, lt-ltb, ne_eqb}
-use Rattle.vocabulary.specs.Test.{bit, lt_or_le}
-use Rattle.vocabulary.specs.Table.{table, is_table}
+use Rattle.vocabulary.specs.Test.{bit}
+use Rattle.vocabulary.proofs.Test.{lt_or_le}
+use Rattle.vocabulary.specs.Table.{table}
+use Rattle.vocabulary.proofs.Table.{is_table}
 use Rattle.dispatcher.specs.declared.State.{State}
 use Rattle.dispatcher.specs.Bytes.{bytes, number, bytes_of, unclear}
 use Rattle.dispatcher.specs.Outcome.{written_of, written_is}

@@ -8,12 +8,15 @@ use native.Mathlib.Nat.{mul-le-mul, mul_comm, le_refl, le_of_dvd, lt_of_lt_of_le
 use native.Mathlib.Omega.{arith}
 use lib.Dec.{eqb, ltb, leb}
 use lib.ListN.{get_or, length, take, drop}
-use Rattle.vocabulary.specs.Prefix.{part_length, part_entry}
+use Rattle.vocabulary.proofs.Prefix.{part_length, part_entry}
 use borrow.Author.Tests.{le-leb, lt-leb, leb-false, eq-eqb, ne_eqb, eqb-true}
-use Rattle.vocabulary.specs.Test.{pick, both}
-use Rattle.vocabulary.specs.Least.{least, least_is, least_same, some_same}
+use Rattle.vocabulary.specs.Test.{pick}
+use Rattle.vocabulary.proofs.Test.{both}
+use Rattle.vocabulary.specs.Least.{least}
+use Rattle.vocabulary.proofs.Least.{least_is, least_same, some_same}
 use Rattle.vocabulary.specs.First.{first_of, from}
-use Rattle.vocabulary.specs.Table.{table, get_or_table, is_table}
+use Rattle.vocabulary.specs.Table.{table}
+use Rattle.vocabulary.proofs.Table.{get_or_table, is_table}
 use Rattle.kinds.specs.Tasks.{Set, tasks_of, view}
 use Rattle.kinds.specs.Cycle.{cycle}
 use Rattle.kinds.specs.Sound.{sound}

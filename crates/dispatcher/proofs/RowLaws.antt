@@ -11,11 +11,14 @@ use lib.Dec.{eqb, leb}
 use lib.ListN.{get_or, length, get_or-eq_default}
 use lib.Pow.{pow_mono}
 use borrow.Author.Tests.{lt-leb, ltb-false, eqb-true}
-use Rattle.vocabulary.specs.Test.{pick, lt_or_le, same_test}
-use Rattle.vocabulary.specs.Least.{least, some, some_same, some_yes, some_at, some_lt, some_ge, some_not}
+use Rattle.vocabulary.specs.Test.{pick}
+use Rattle.vocabulary.proofs.Test.{lt_or_le, same_test}
+use Rattle.vocabulary.specs.Least.{least, some}
+use Rattle.vocabulary.proofs.Least.{some_same, some_yes, some_at, some_lt, some_ge, some_not}
 use Rattle.vocabulary.specs.Bits.{has, pack}
-use Rattle.vocabulary.specs.Words.{heard_word}
-use Rattle.vocabulary.specs.Table.{table, length_table, get_or_table, is_table}
+use Rattle.vocabulary.proofs.Words.{heard_word}
+use Rattle.vocabulary.specs.Table.{table}
+use Rattle.vocabulary.proofs.Table.{length_table, get_or_table, is_table}
 use Rattle.vocabulary.specs.First.{first_of, from}
 use Rattle.kinds.specs.Tasks.{Tasks, tasks_of}
 use Rattle.kinds.specs.declared.Counts.{Counts}

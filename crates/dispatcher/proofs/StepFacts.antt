@@ -3,16 +3,21 @@ use mathlib.Core.Path.{◌≡◌, refl, sym, ap, ◌∙◌}
 use mathlib.Core.Bool.{Bool, true, false, ◌&&◌, ◌||◌, not}
 use mathlib.Core.List.{List, [], ◌∷◌}
 use mathlib.Core.Logic.{◌⊎◌, inl, inr}
-use Prim.Native.Nat.{ℕ, ◌+◌, ◌-◌, ◌*◌, ◌≤◌, ◌<◌, ◌^◌}
+use Prim.Native.Nat.{ℕ, ◌+◌, ◌-◌, ◌*◌, ◌<◌, ◌^◌}
 use native.Mathlib.Omega.{arith}
 use lib.Dec.{eqb, leb}
 use lib.ListN.{length}
 use borrow.Author.Tests.{lt-leb, leb-false, eq-eqb, ne_eqb, eqb-true, not-false}
-use Rattle.vocabulary.specs.Test.{pick, clash, both, eq_or_ne, and_false}
-use Rattle.vocabulary.specs.Least.{some, some_same, some_and}
-use Rattle.vocabulary.specs.Bits.{has, has_pack, pack_lt}
-use Rattle.vocabulary.specs.Table.{table, length_table, get_or_table}
-use Rattle.vocabulary.specs.First.{first_of, numbers_of, earlier, Each, ◌also◌, Told, first_told, Claim, claim, KeptBy}
+use Rattle.vocabulary.specs.Test.{pick}
+use Rattle.vocabulary.proofs.Test.{clash, both, eq_or_ne, and_false}
+use Rattle.vocabulary.specs.Least.{some}
+use Rattle.vocabulary.proofs.Least.{some_same, some_and}
+use Rattle.vocabulary.specs.Bits.{has}
+use Rattle.vocabulary.proofs.Bits.{has_pack, pack_lt}
+use Rattle.vocabulary.specs.Table.{table}
+use Rattle.vocabulary.proofs.Table.{length_table, get_or_table}
+use Rattle.vocabulary.specs.First.{first_of, numbers_of, earlier, Each, ◌also◌, Told, Claim, claim, KeptBy}
+use Rattle.vocabulary.proofs.First.{first_told}
 use Rattle.kinds.specs.Tasks.{Tasks, Set}
 use Rattle.kinds.specs.Cycle.{cycle}
 use Rattle.kinds.specs.Sound.{sound}

@@ -8,7 +8,7 @@ use native.Mathlib.Omega.{arith}
 use borrow.Author.Count.{below_more}
 use lib.ListN.{length, get_or}
 use lib.Seq.{ext_get_or}
-use Rattle.vocabulary.specs.Test.{clash}
+use Rattle.vocabulary.proofs.Test.{clash}
 
 module _ (xs ys : List ℕ) where
   pub other_length : (length xs ≡ length ys → ⊥) → (false ≡ true) ↔ (xs ≡ ys)

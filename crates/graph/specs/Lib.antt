@@ -4,12 +4,10 @@ pub mod Soonest
 pub mod Reach
 pub mod Settle
 pub mod Sub
-pub mod Equation
 pub mod Column
 pub mod Pass
 pub mod Cycle
 pub mod Search
 pub mod Listed
 pub mod JobRows
-pub mod RowsFall
 pub mod SearchRows

@@ -6,9 +6,10 @@ use Prim.Native.Nat.{ℕ, ◌*◌, ◌<◌, ◌≤◌}
 use native.Mathlib.Omega.{arith}
 use borrow.Author.Tests.{leb-true}
 use lib.Dec.{leb}
-use Rattle.vocabulary.specs.Test.{both}
-use Rattle.vocabulary.specs.Least.{all, all_from}
-use Rattle.vocabulary.specs.Keep.{row_none}
+use Rattle.vocabulary.proofs.Test.{both}
+use Rattle.vocabulary.specs.Least.{all}
+use Rattle.vocabulary.proofs.Least.{all_from}
+use Rattle.vocabulary.proofs.Keep.{row_none}
 use Rattle.kinds.specs.declared.Task.{Task}
 use Rattle.kinds.specs.declared.TaskSet.{TaskSet}
 use Rattle.kinds.specs.Limits.{holds, periods, no_key}

@@ -5,7 +5,7 @@ use mathlib.Core.List.{List}
 use Prim.Native.Nat.{ℕ, ◌+◌, ◌<◌, ◌≤◌}
 use native.Mathlib.Omega.{arith}
 use lib.Dec.{leb, eqb}
-use Rattle.vocabulary.specs.Test.{took, missed, both}
+use Rattle.vocabulary.proofs.Test.{took, missed, both}
 use Rattle.kinds.specs.declared.Key.{Key}
 use Rattle.kinds.specs.Limits.{Range, range, holds, task_counts, processor_counts, periods, runnings, offsets, deadlines, pattern_counts, most_pairs, first_range, second_range, rises}
 use Rattle.kinds.specs.Editions.{editions}

@@ -7,9 +7,11 @@ use native.Mathlib.Omega.{arith}
 use borrow.Author.Count.{below_more}
 use borrow.Author.Tests.{le-leb}
 use lib.ListN.{length, set, length-set}
-use Rattle.vocabulary.specs.Test.{both}
-use Rattle.vocabulary.specs.Least.{all, all_from, Passing, pass_from, pass_on, pass_end}
-use Rattle.vocabulary.specs.Keep.{SamePrefix, kept_self, kept_on, Row, row_none}
+use Rattle.vocabulary.proofs.Test.{both}
+use Rattle.vocabulary.specs.Least.{all, Passing}
+use Rattle.vocabulary.proofs.Least.{all_from, pass_from, pass_on, pass_end}
+use Rattle.vocabulary.specs.Keep.{SamePrefix, Row}
+use Rattle.vocabulary.proofs.Keep.{kept_self, kept_on, row_none}
 use Rattle.kinds.specs.declared.Key.{Key}
 use Rattle.kinds.specs.declared.Spans.{Spans}
 use Rattle.kinds.specs.declared.Task.{Task}

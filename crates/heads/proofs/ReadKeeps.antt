@@ -3,7 +3,8 @@ use mathlib.Core.Path.{◌≡◌, sym, ap, ◌∙◌, subst}
 use mathlib.Core.List.{List}
 use Prim.Native.Nat.{ℕ, zero, suc, ◌+◌, ◌*◌}
 use native.Mathlib.Omega.{arith}
-use Rattle.vocabulary.specs.Keep.{SamePrefix, kept_self, kept_on, Row}
+use Rattle.vocabulary.specs.Keep.{SamePrefix, Row}
+use Rattle.vocabulary.proofs.Keep.{kept_self, kept_on}
 use Rattle.kinds.specs.declared.Key.{Key}
 use Rattle.kinds.specs.Limits.{no_key, after}
 use Rattle.kinds.specs.Tasks.{Tasks, put_pair}

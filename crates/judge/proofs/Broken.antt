@@ -6,16 +6,17 @@ use Prim.Native.Nat.{ℕ, ◌+◌, ◌-◌, ◌<◌, ◌≤◌}
 use native.Mathlib.Omega.{arith}
 use lib.Dec.{leb}
 use borrow.Author.Tests.{le-leb, leb-true}
-use Rattle.vocabulary.specs.Test.{clash, fails, both, same_test, lt_or_le}
-use Rattle.vocabulary.specs.Least.{least, some_yes, some_at}
+use Rattle.vocabulary.proofs.Test.{clash, fails, both, same_test, lt_or_le}
+use Rattle.vocabulary.specs.Least.{least}
+use Rattle.vocabulary.proofs.Least.{some_yes, some_at}
 use Rattle.kinds.specs.Tasks.{Tasks, deadline}
 use Rattle.kinds.specs.Jobs.{release}
 use Rattle.kinds.specs.Plans.{Plan, runs}
 use Rattle.kinds.specs.Valid.{TickOf, LinkKept}
-use Rattle.laws.specs.Window.{tick_is}
+use Rattle.laws.proofs.Window.{tick_is}
 use Rattle.judge.specs.Rules.{against, bars, broken}
 use Rattle.kinds.specs.JobTicks.{Gets}
-use Rattle.laws.specs.JobTicks.{to_tick}
+use Rattle.laws.proofs.JobTicks.{to_tick}
 
 of_tick : (u : Tasks) (p : Plan) (i k x : ℕ) → TickOf u p i k x → release u i k + (x - release u i k) ≡ x
 of_tick u p i k x t = omega (arith, (tick_is u p i k x t).0)

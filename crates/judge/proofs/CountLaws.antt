@@ -6,7 +6,8 @@ use Prim.Native.Nat.{ℕ, ◌/◌, ◌<◌, ◌≤◌}
 use native.Mathlib.Omega.{arith}
 use borrow.Author.Tests.{eqb-true, eq-eqb, ne_eqb, not-false}
 use Rattle.vocabulary.specs.First.{first_of, from}
-use Rattle.vocabulary.specs.Least.{least, some, some_lt, some_ge, some_not, Seeking, hit}
+use Rattle.vocabulary.specs.Least.{least, some, Seeking}
+use Rattle.vocabulary.proofs.Least.{some_lt, some_ge, some_not, hit}
 use Rattle.kinds.specs.Tasks.{Tasks, Patterns, tasks_of, task_at, running}
 use Rattle.kinds.specs.Cycle.{jobs_of}
 use Rattle.kinds.specs.Plans.{Plan, ticks}
@@ -15,7 +16,7 @@ use Rattle.judge.specs.declared.Verdict.TheVariants as verdict
 use Rattle.judge.specs.Rules.{miscounts, miscounted}
 use Rattle.judge.specs.Judgement.{wrong_at, plan_rules, verdict_from}
 use Rattle.kinds.specs.JobTicks.{Gets}
-use Rattle.laws.specs.JobTicks.{gets_ticks}
+use Rattle.laws.proofs.JobTicks.{gets_ticks}
 use Rattle.judge.proofs.EachJobGets.{jobs_are}
 use Rattle.judge.specs.TableNeeds.{lane_of, lane_in, Tells, Counted}
 use Rattle.judge.proofs.LaneLaws.{lane_parts, lane_tells}

@@ -10,20 +10,25 @@ use lib.Arith.{digits_lt}
 use lib.Dec.{eqb, leb, ltb}
 use lib.ListN.{get_or}
 use borrow.Author.Tests.{eq-eqb, ne_eqb, eqb-true, ltb-true, ltb-false, lt-ltb, le-leb, lt-leb}
-use Rattle.vocabulary.specs.Test.{bit, pick, clash, both, same_test, lt_or_le, and_false, and_true}
-use Rattle.vocabulary.specs.Least.{least, some, some_yes, some_at}
-use Rattle.vocabulary.specs.Count.{count, count_same, count_none}
-use Rattle.vocabulary.specs.Rows.{row_div, count_once, count_rows}
+use Rattle.vocabulary.specs.Test.{bit, pick}
+use Rattle.vocabulary.proofs.Test.{clash, both, same_test, lt_or_le, and_false, and_true}
+use Rattle.vocabulary.specs.Least.{least, some}
+use Rattle.vocabulary.proofs.Least.{some_yes, some_at}
+use Rattle.vocabulary.specs.Count.{count}
+use Rattle.vocabulary.proofs.Count.{count_same, count_none}
+use Rattle.vocabulary.proofs.Rows.{row_div, count_once, count_rows}
 use Rattle.vocabulary.specs.Tally.{count_at, first_at, last_at}
 use Rattle.kinds.specs.Tasks.{Tasks, task_at, period, offset, deadline}
 use Rattle.kinds.specs.Cycle.{jobs_of, jobs_before, jobs}
 use Rattle.kinds.specs.Jobs.{release, number_of_job, task_of_job}
 use Rattle.kinds.specs.Plans.{Plan, slot, shows, shown, runs, ticks}
 use Rattle.kinds.specs.Valid.{TickOf}
-use Rattle.laws.specs.Repeat.{runs_awake}
-use Rattle.laws.specs.Order.{task_of_number, number_low}
-use Rattle.laws.specs.Window.{tick_at_lem, tick_is, falls, falls_is, is_falling, window_count}
-use Rattle.laws.specs.Window.{time_of, time_awake, time_asleep, time_from, shown_time, time_mod, turned}
+use Rattle.laws.proofs.Repeat.{runs_awake}
+use Rattle.laws.proofs.Order.{task_of_number, number_low}
+use Rattle.laws.specs.Window.{falls}
+use Rattle.laws.proofs.Window.{tick_at_lem, tick_is, falls_is, is_falling, window_count}
+use Rattle.laws.specs.Window.{time_of}
+use Rattle.laws.proofs.Window.{time_awake, time_asleep, time_from, shown_time, time_mod, turned}
 use Rattle.judge.specs.Rules.{twin, mated, clashes, strays}
 use Rattle.judge.specs.JobTable.{EachJobGets}
 use Rattle.judge.specs.JobOfSlot.{Fit, job_key, key_of, key, time, outside, Fine, Walked}

@@ -6,11 +6,11 @@ use native.Mathlib.Omega.{arith}
 use lib.ListN.{get_or, length, set, length-set}
 use lib.Seq.{get_or-set_same, get_or-set_other}
 use borrow.Author.Count.{below_more}
-use Rattle.vocabulary.specs.Total.{total_none, total_more}
+use Rattle.vocabulary.proofs.Total.{total_none, total_more}
 use Rattle.kinds.specs.declared.Task.{Task}
 use Rattle.kinds.specs.Tasks.{Tasks, task_at, task_in, task_in_lem, period}
 use Rattle.kinds.specs.Cycle.{cycle, jobs_of, jobs_before, jobs}
-use Rattle.laws.specs.Order.{before_up}
+use Rattle.laws.proofs.Order.{before_up}
 use Rattle.judge.specs.JobOfSlot.{FirstJobs}
 use Rattle.judge.specs.TableNeeds.{Countable}
 

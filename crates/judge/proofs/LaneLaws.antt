@@ -8,12 +8,12 @@ use lib.ListN.{get_or, length}
 use Rattle.vocabulary.specs.Tally.{count_at, first_at, last_at}
 use Rattle.kinds.specs.declared.Task.{Task}
 use Rattle.kinds.specs.Tasks.{Tasks, task_at, task_in, task_in_lem, period, offset}
-use Rattle.kinds.specs.Cycle.{jobs_of, jobs_before, jobs}
+use Rattle.kinds.specs.Cycle.{jobs_of, jobs_before}
 use Rattle.kinds.specs.Jobs.{release, number_of_job}
 use Rattle.kinds.specs.Plans.{Plan}
 use Rattle.judge.specs.declared.Lane.{Lane}
 use Rattle.kinds.specs.JobTicks.{Gets}
-use Rattle.laws.specs.JobTicks.{gets_none, gets_low, gets_again}
+use Rattle.laws.proofs.JobTicks.{gets_none, gets_low, gets_again}
 use Rattle.judge.specs.JobTable.{RowGets}
 use Rattle.judge.specs.JobOfSlot.{Fit}
 use Rattle.judge.proofs.EachJobGets.{jobs_are, number_fits}

@@ -8,10 +8,11 @@ use native.Mathlib.Omega.{arith}
 use lib.Dec.{leb}
 use lib.ListN.{get_or}
 use borrow.Author.Tests.{le-leb, lt-leb, lt-ltb}
-use Rattle.vocabulary.specs.Test.{by_false}
+use Rattle.vocabulary.proofs.Test.{by_false}
 use Rattle.vocabulary.specs.First.{first_of, from}
-use Rattle.vocabulary.specs.Total.{total_none, total_more}
-use Rattle.vocabulary.specs.Least.{least, some_lt, some_ge, Seeking, hit, miss}
+use Rattle.vocabulary.proofs.Total.{total_none, total_more}
+use Rattle.vocabulary.specs.Least.{least, Seeking}
+use Rattle.vocabulary.proofs.Least.{some_lt, some_ge, hit, miss}
 use Rattle.vocabulary.specs.Multiple.{lcm}
 use Rattle.kinds.specs.declared.Pair.{Pair}
 use Rattle.kinds.specs.declared.Pattern.{Pattern}
@@ -23,7 +24,7 @@ use Rattle.kinds.specs.Links.{common, link_from, link_to, repeats}
 use Rattle.kinds.specs.Plans.{Plan, ticks}
 use Rattle.kinds.specs.RangeLaws.{reach_low}
 use Rattle.kinds.proofs.SoundFacts.{Sound, some_jobs}
-use Rattle.laws.specs.Repeat.{ticks_again}
+use Rattle.laws.proofs.Repeat.{ticks_again}
 use Rattle.judge.specs.declared.Lane.{Lane}
 use Rattle.judge.specs.declared.LinkSteps.{LinkSteps}
 use Rattle.judge.specs.declared.Verdict.TheVariants as verdict

@@ -11,9 +11,11 @@ use lib.Bits.{bit_or}
 use lib.Dec.{eqb, ltb}
 use lib.ListN.{get_or, length}
 use borrow.Author.Tests.{eq-eqb, ne_eqb, eqb-true, lt-ltb, le-ltb}
-use Rattle.vocabulary.specs.Test.{clash, fails, both, lt_or_le, eq_or_ne}
-use Rattle.vocabulary.specs.Least.{least, some, some_yes, some_at, some_not, some_more, some_none, none}
-use Rattle.vocabulary.specs.Bits.{has, has_none, set_word}
+use Rattle.vocabulary.proofs.Test.{clash, fails, both, lt_or_le, eq_or_ne}
+use Rattle.vocabulary.specs.Least.{least, some}
+use Rattle.vocabulary.proofs.Least.{some_yes, some_at, some_not, some_more, some_none, none}
+use Rattle.vocabulary.specs.Bits.{has}
+use Rattle.vocabulary.proofs.Bits.{has_none, set_word}
 use Rattle.kinds.specs.Plans.{Plan, plan, slot, shows}
 use Rattle.judge.specs.Rules.{twin, mated, clashes}
 use Rattle.judge.specs.RowMarks.{Worded, marked, Added}

@@ -2,14 +2,15 @@
 use mathlib.Core.Path.{◌≡◌, sym, ap, ◌∙◌, subst}
 use mathlib.Core.Bool.{Bool, true, false}
 use mathlib.Core.List.{List}
-use mathlib.Core.Logic.{◌⊎◌, inl, inr, ⊎_elim}
+use mathlib.Core.Logic.{inl, inr, ⊎_elim}
 use Prim.Native.Nat.{ℕ, ◌+◌, ◌*◌, ◌/◌, ◌%◌, ◌<◌, ◌≤◌}
 use native.Mathlib.Nat.{eq-or-lt_of_le, mul-div_cancel, div-add-mod', mod-lt}
 use native.Mathlib.Omega.{arith}
 use lib.Arith.{digits_lt}
 use lib.ListN.{get_or}
-use Rattle.vocabulary.specs.Least.{least, least_only, some_yes, none}
-use Rattle.vocabulary.specs.Rows.{row_div, row_mod}
+use Rattle.vocabulary.specs.Least.{least}
+use Rattle.vocabulary.proofs.Least.{least_only, some_yes, none}
+use Rattle.vocabulary.proofs.Rows.{row_div, row_mod}
 use Rattle.vocabulary.specs.Tally.{Fresh}
 use Rattle.kinds.specs.Tasks.{Tasks}
 use Rattle.kinds.specs.Cycle.{jobs}

@@ -8,13 +8,15 @@ use native.Mathlib.Nat.{div-lt_iff_lt-mul, mod-lt, mul-le-mul}
 use native.Mathlib.Omega.{arith}
 use lib.ListN.{get_or, length, take, replicate, length-replicate, get_or-replicate}
 use borrow.Author.Tests.{eq-eqb, ne_eqb}
-use Rattle.vocabulary.specs.Test.{pick, clash}
+use Rattle.vocabulary.specs.Test.{pick}
+use Rattle.vocabulary.proofs.Test.{clash}
 use Rattle.vocabulary.specs.First.{first_of, from}
-use Rattle.vocabulary.specs.Least.{least, least_is, some, some_yes, some_at, some_lt, some_ge, none}
+use Rattle.vocabulary.specs.Least.{least, some}
+use Rattle.vocabulary.proofs.Least.{least_is, some_yes, some_at, some_lt, some_ge, none}
 use Rattle.vocabulary.specs.Tally.{Fresh}
 use Rattle.kinds.specs.declared.Counts.{Counts}
 use Rattle.kinds.specs.Tasks.{Tasks, Patterns, Set, tasks_of, patterns_of}
-use Rattle.kinds.specs.Plans.{Plan, plan}
+use Rattle.kinds.specs.Plans.{Plan}
 use Rattle.kinds.specs.Sound.{sound}
 use Rattle.kinds.proofs.SoundFacts.{Sound, sound_facts}
 use Rattle.kinds.specs.SoundByTests.{CountsFound, lent_is}

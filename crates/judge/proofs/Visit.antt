@@ -9,16 +9,18 @@ use lib.Arith.{digits_lt}
 use lib.Dec.{leb}
 use lib.ListN.{get_or, length}
 use borrow.Author.Tests.{le-leb, lt-leb}
-use Rattle.vocabulary.specs.Test.{clash}
-use Rattle.vocabulary.specs.Least.{none, Seeking, on, seek}
-use Rattle.vocabulary.specs.Rows.{row_div, row_mod}
-use Rattle.vocabulary.specs.Tally.{count_at, tally_from, tally_skip, tally_note, tally_room, Noted, Fresh}
+use Rattle.vocabulary.proofs.Test.{clash}
+use Rattle.vocabulary.specs.Least.{Seeking}
+use Rattle.vocabulary.proofs.Least.{none, on, seek}
+use Rattle.vocabulary.proofs.Rows.{row_div, row_mod}
+use Rattle.vocabulary.specs.Tally.{count_at, Noted, Fresh}
+use Rattle.vocabulary.proofs.Tally.{tally_from, tally_skip, tally_note, tally_room}
 use Rattle.kinds.specs.declared.Task.{Task}
 use Rattle.kinds.specs.Tasks.{Tasks, task_at, task_in, task_in_lem}
 use Rattle.kinds.specs.Cycle.{jobs}
 use Rattle.kinds.specs.Plans.{Plan}
 use Rattle.laws.specs.Window.{time_of}
-use Rattle.laws.specs.Order.{before_up}
+use Rattle.laws.proofs.Order.{before_up}
 use Rattle.judge.specs.Rules.{strays, strayed}
 use Rattle.judge.specs.JobOfSlot.{Fit, FirstJobs, job_key, key, time, outside, Fine, Walked, Visited}
 use Rattle.judge.proofs.EachJobGets.{fine, key_task, tick_low, outside_is, idle_is}

@@ -9,9 +9,10 @@ use lib.ListN.{length, get_or, set, length-set, get_or-eq_default}
 use lib.Seq.{get_or-set_same, get_or-set_other}
 use borrow.Author.Tests.{eqb-false, ltb-false}
 use Rattle.vocabulary.specs.Test.{pick}
-use Rattle.vocabulary.specs.Total.{total_same}
-use Rattle.vocabulary.specs.StopsAndZeros.{zeros_set}
-use Rattle.vocabulary.specs.Keep.{SamePrefix, kept_self, Row, row_none}
+use Rattle.vocabulary.proofs.Total.{total_same}
+use Rattle.vocabulary.proofs.StopsAndZeros.{zeros_set}
+use Rattle.vocabulary.specs.Keep.{SamePrefix, Row}
+use Rattle.vocabulary.proofs.Keep.{kept_self, row_none}
 use Rattle.kinds.specs.declared.TaskSet.{TaskSet}
 use Rattle.kinds.specs.Limits.{holds}
 use Rattle.kinds.specs.Editions.{editions}

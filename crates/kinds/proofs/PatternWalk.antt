@@ -8,10 +8,14 @@ use native.Mathlib.Numerals.{add-one}
 use native.Mathlib.Omega.{arith}
 use lib.Dec.{leb, eqb}
 use borrow.Author.Tests.{leb-true, eqb-false, ne_eqb, not-true}
-use Rattle.vocabulary.specs.Test.{pick, both, clash}
-use Rattle.vocabulary.specs.Least.{all, all_fails, Passing, pass_from, pass_on, pass_end}
-use Rattle.vocabulary.specs.Total.{total, total_none, total_more}
-use Rattle.vocabulary.specs.Multiple.{lcm, lcm_pos}
+use Rattle.vocabulary.specs.Test.{pick}
+use Rattle.vocabulary.proofs.Test.{both, clash}
+use Rattle.vocabulary.specs.Least.{all, Passing}
+use Rattle.vocabulary.proofs.Least.{all_fails, pass_from, pass_on, pass_end}
+use Rattle.vocabulary.specs.Total.{total}
+use Rattle.vocabulary.proofs.Total.{total_none, total_more}
+use Rattle.vocabulary.specs.Multiple.{lcm}
+use Rattle.vocabulary.proofs.Multiple.{lcm_pos}
 use Rattle.kinds.specs.declared.Key.{Key}
 use Rattle.kinds.specs.declared.Spans.{Spans}
 use Rattle.kinds.specs.declared.Pattern.{Pattern}

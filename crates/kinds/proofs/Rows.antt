@@ -4,7 +4,8 @@ use mathlib.Core.List.{List}
 use Prim.Native.Nat.{ℕ, ◌+◌, ◌*◌, ◌<◌, ◌≤◌}
 use native.Mathlib.Omega.{arith}
 use lib.ListN.{length, get_or, set, length-set}
-use Rattle.vocabulary.specs.Keep.{SamePrefix, kept_less, kept_set, kept_at, Row, row_on_lem}
+use Rattle.vocabulary.specs.Keep.{SamePrefix, Row}
+use Rattle.vocabulary.proofs.Keep.{kept_less, kept_set, kept_at, row_on_lem}
 use Rattle.kinds.specs.declared.Task.{Task}
 use Rattle.kinds.specs.Tasks.{task_of, task_at, put_task, put_heading, put_pair, first_in, second_in}
 

@@ -6,9 +6,11 @@ use native.Mathlib.Nat.{div-mul_cancel, le-div_iff_mul-le, le_of_dvd, one-mul}
 use native.Mathlib.Omega.{arith}
 use lib.Dec.{leb, eqb}
 use borrow.Author.Tests.{leb-true, eq-eqb}
-use Rattle.vocabulary.specs.Test.{pick, both}
-use Rattle.vocabulary.specs.Least.{all, all_at}
-use Rattle.vocabulary.specs.Multiple.{lcm_pos, lcm_left, lcm_right, lcm_dvd, lcm_of_dvd}
+use Rattle.vocabulary.specs.Test.{pick}
+use Rattle.vocabulary.proofs.Test.{both}
+use Rattle.vocabulary.specs.Least.{all}
+use Rattle.vocabulary.proofs.Least.{all_at}
+use Rattle.vocabulary.proofs.Multiple.{lcm_pos, lcm_left, lcm_right, lcm_dvd, lcm_of_dvd}
 use Rattle.kinds.specs.declared.Key.{Key}
 use Rattle.kinds.specs.declared.Task.{Task}
 use Rattle.kinds.specs.Limits.{holds, rises, after, task_counts, pattern_counts, periods, runnings, offsets}

@@ -6,10 +6,13 @@ use Prim.Native.Nat.{ℕ, zero, suc, ◌+◌, ◌*◌, ◌/◌, ◌<◌, ◌≤�
 use native.Mathlib.Omega.{arith}
 use lib.Dec.{leb}
 use lib.ListN.{get_or}
-use Rattle.vocabulary.specs.Test.{both}
-use Rattle.vocabulary.specs.Least.{all, all_at, all_same}
-use Rattle.vocabulary.specs.Total.{total, total_same, total_up}
-use Rattle.vocabulary.specs.Multiple.{lcm, lcm_of, lcm_of_same}
+use Rattle.vocabulary.proofs.Test.{both}
+use Rattle.vocabulary.specs.Least.{all}
+use Rattle.vocabulary.proofs.Least.{all_at, all_same}
+use Rattle.vocabulary.specs.Total.{total}
+use Rattle.vocabulary.proofs.Total.{total_same, total_up}
+use Rattle.vocabulary.specs.Multiple.{lcm, lcm_of}
+use Rattle.vocabulary.proofs.Multiple.{lcm_of_same}
 use Rattle.kinds.specs.declared.Key.{Key}
 use Rattle.kinds.specs.Limits.{holds, pattern_counts, rises, after}
 use Rattle.kinds.specs.Tasks.{Set, period, from_task, to_task, pair_count, pairs_in, pairs_before, first_in, second_in}

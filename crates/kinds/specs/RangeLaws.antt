@@ -3,10 +3,14 @@ use Rattle.std.specs.Prelude.{◌≡◌, refl, Bool, true, false, ◌&&◌, List
 use Rattle.std.proofs.Common.{sym, ap, ◌∙◌, lt_of_lt_of_le, mul_comm, mul-le-mul, add-one, arith, ltb-true, leb-true, lt-ltb, le-ltb, le-leb}
 use Rattle.std.proofs.Math.Nat.{div-le_of_le-mul}
 use Rattle.std.proofs.lemmas.Bool.{lt-leb}
-use Rattle.vocabulary.specs.Test.{pick, took, both, and_false, fails}
-use Rattle.vocabulary.specs.Least.{all, all_fails}
-use Rattle.vocabulary.specs.Total.{total, total_none, total_more, total_up}
-use Rattle.vocabulary.specs.Multiple.{lcm, lcm_pos, lcm_le, lcm_of, lcm_of_more, lcm_of_up, lcm_of_pos}
+use Rattle.vocabulary.specs.Test.{pick}
+use Rattle.vocabulary.proofs.Test.{took, both, and_false, fails}
+use Rattle.vocabulary.specs.Least.{all}
+use Rattle.vocabulary.proofs.Least.{all_fails}
+use Rattle.vocabulary.specs.Total.{total}
+use Rattle.vocabulary.proofs.Total.{total_none, total_more, total_up}
+use Rattle.vocabulary.specs.Multiple.{lcm, lcm_of}
+use Rattle.vocabulary.proofs.Multiple.{lcm_pos, lcm_le, lcm_of_more, lcm_of_up, lcm_of_pos}
 use Rattle.kinds.specs.declared.Key.{Key}
 use Rattle.kinds.specs.declared.Edition.{Edition}
 use Rattle.kinds.specs.declared.Spans.{Spans}

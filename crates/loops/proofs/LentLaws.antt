@@ -8,11 +8,13 @@ use native.Mathlib.Omega.{arith}
 use borrow.Author.Tests.{lt-ltb, le-ltb, ltb-true, eq-eqb, ne_eqb, eqb-true, le-leb, lt-leb, leb-true}
 use lib.Dec.{eqb, leb, ltb}
 use lib.ListN.{length, get_or, get_or-eq_default}
-use Rattle.vocabulary.specs.Test.{both, lt_or_le}
-use Rattle.vocabulary.specs.Least.{all_at, all_from}
-use Rattle.vocabulary.specs.Table.{length_table, get_or_table, is_table, Filling, filled}
+use Rattle.vocabulary.proofs.Test.{both, lt_or_le}
+use Rattle.vocabulary.proofs.Least.{all_at, all_from}
+use Rattle.vocabulary.specs.Table.{Filling}
+use Rattle.vocabulary.proofs.Table.{length_table, get_or_table, is_table, filled}
 use Rattle.graph.specs.Graph.{graph_of, lowest}
-use Rattle.graph.specs.Column.{column, column_long, column_at}
+use Rattle.graph.specs.Column.{column}
+use Rattle.graph.proofs.Column.{column_long, column_at}
 use Rattle.graph.specs.Pass.{at}
 use Rattle.graph.specs.JobRows.{starts, ends}
 use Rattle.graph.specs.SearchRows.{no_row, Cleared, Clearing, SearchAsked}

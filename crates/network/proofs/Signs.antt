@@ -8,9 +8,9 @@ use lib.IntN.{ℤ, pos, sub_ℕ, ◌-ℤ◌}
 use mir.Syntax.{w32}
 use mir.Val.{SFits, to_z, of_z}
 use mir.ValLaws.{to_z_pos, to_z-of_z}
-use Rattle.vocabulary.specs.Test.{lt_or_le}
+use Rattle.vocabulary.proofs.Test.{lt_or_le}
 use Rattle.graph.specs.Pass.{limit}
-use Rattle.graph.specs.Sub.{sub_ge, sub_lt, sub_more}
+use Rattle.graph.proofs.Sub.{sub_ge, sub_lt, sub_more}
 
 fits_sub : (x : ℕ) → x ≤ limit → SFits w32 (sub_ℕ 12000 x)
 fits_sub x l = go (lt_or_le 12000 x)

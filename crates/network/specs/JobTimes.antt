@@ -4,22 +4,27 @@ use Rattle.std.proofs.Common.{sym, ◌∙◌, inl, inr, div-add-mod', mul-le-mul
 use Rattle.std.proofs.Math.Path.{ap}
 use Rattle.std.proofs.Math.IntN.{sub_ℕ}
 use Rattle.std.proofs.Math.ListN.{length}
-use Rattle.vocabulary.specs.Test.{pick, clash, lt_or_le}
+use Rattle.vocabulary.specs.Test.{pick}
+use Rattle.vocabulary.proofs.Test.{clash, lt_or_le}
 use Rattle.vocabulary.specs.Least.{least}
-use Rattle.vocabulary.specs.Total.{total_none}
-use Rattle.vocabulary.specs.Table.{table, is_table, length_table, get_or_table}
+use Rattle.vocabulary.proofs.Total.{total_none}
+use Rattle.vocabulary.specs.Table.{table}
+use Rattle.vocabulary.proofs.Table.{is_table, length_table, get_or_table}
 use Rattle.graph.specs.Graph.{Graph, graph_of, lowest, loops}
 use Rattle.graph.specs.Reach.{Free}
 use Rattle.graph.specs.Longest.{rounds}
 use Rattle.graph.specs.Soonest.{soonest}
-use Rattle.graph.specs.Column.{column, column_long, column_at}
+use Rattle.graph.specs.Column.{column}
+use Rattle.graph.proofs.Column.{column_long, column_at}
 use Rattle.graph.specs.Pass.{limit, at, Settled}
-use Rattle.graph.specs.Cycle.{Between, Falling, fallen, fallen_free}
+use Rattle.graph.specs.Cycle.{Between, Falling}
+use Rattle.graph.proofs.Cycle.{fallen, fallen_free}
 use Rattle.graph.specs.JobRows as row
 use Rattle.graph.specs.JobRows.{starts, ends, Ready, Rounds}
 use Rattle.graph.specs.SearchRows.{SearchAsked}
-use Rattle.graph.specs.Listed.{Weighted, settled_rounds, settled_soonest}
-use Rattle.vocabulary.specs.Least.{least_is}
+use Rattle.graph.specs.Listed.{Weighted}
+use Rattle.graph.proofs.Listed.{settled_rounds, settled_soonest}
+use Rattle.vocabulary.proofs.Least.{least_is}
 use Rattle.loops.specs.LentLinks.{lowest_in}
 use Rattle.loops.proofs.LentLaws.{lowest_of}
 use Rattle.kinds.specs.declared.Task.{Task}
@@ -27,7 +32,7 @@ use Rattle.kinds.specs.Tasks.{Tasks, Set, task_at, period, running, offset, dead
 use Rattle.kinds.specs.Cycle.{cycle, jobs_of, jobs_before, jobs}
 use Rattle.kinds.specs.Jobs.{release, due, number_of_job, task_of_job, job_of_job}
 use Rattle.kinds.proofs.SoundFacts.{Sound}
-use Rattle.laws.specs.Order.{before_suc, before_up, number_sum, task_of_number, job_of_number}
+use Rattle.laws.proofs.Order.{before_suc, before_up, number_sum, task_of_number, job_of_number}
 use Rattle.network.specs.Times.{own_release, own_due, own_running}
 use Rattle.network.specs.TimesLaws.{own_release_low, own_due_low, own_running_low}
 use Rattle.network.specs.declared.Lowest.{Lowest}

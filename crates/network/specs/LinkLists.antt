@@ -7,14 +7,18 @@ use Prim.Native.Nat.{ℕ, suc, ◌+◌, ◌-◌, ◌*◌, ◌/◌, ◌≤◌, �
 use Rattle.std.proofs.Math.Nat.{div-le_self, le_of_dvd}
 use native.Mathlib.Omega.{arith}
 use Rattle.std.proofs.Math.ListN.{length, get_or, get_or-append}
-use Rattle.vocabulary.specs.Test.{lt_or_le}
-use Rattle.vocabulary.specs.Total.{total, total_none, total_more, total_mono, total_up}
-use Rattle.vocabulary.specs.Multiple.{lcm, lcm_pos}
-use Rattle.vocabulary.specs.Table.{table, is_table, length_table, get_or_table, join, Filling, is, fill_from, fill_on}
-use Rattle.vocabulary.specs.Lists.{length_join, length_join_most, join_same}
-use Rattle.vocabulary.specs.Prefix.{taken}
+use Rattle.vocabulary.proofs.Test.{lt_or_le}
+use Rattle.vocabulary.specs.Total.{total}
+use Rattle.vocabulary.proofs.Total.{total_none, total_more, total_mono, total_up}
+use Rattle.vocabulary.specs.Multiple.{lcm}
+use Rattle.vocabulary.proofs.Multiple.{lcm_pos}
+use Rattle.vocabulary.specs.Table.{table, join, Filling, is}
+use Rattle.vocabulary.proofs.Table.{is_table, length_table, get_or_table, fill_from, fill_on}
+use Rattle.vocabulary.proofs.Lists.{length_join, length_join_most, join_same}
+use Rattle.vocabulary.proofs.Prefix.{taken}
 use Rattle.graph.specs.Graph.{Graph, LinksInside, graph_of}
-use Rattle.graph.specs.Column.{column, column_long, column_at}
+use Rattle.graph.specs.Column.{column}
+use Rattle.graph.proofs.Column.{column_long, column_at}
 use Rattle.graph.specs.JobRows.{starts, ends}
 use Rattle.graph.specs.Pass.{at}
 use Rattle.graph.specs.Cycle.{Between}
@@ -29,8 +33,10 @@ use Rattle.kinds.specs.Cycle.{multiple_of, cycle, jobs_of, jobs_before, jobs}
 use Rattle.kinds.specs.Jobs.{number_of_job}
 use Rattle.kinds.specs.Links.{common, link_from, link_to, repeats, links_of, links}
 use Rattle.kinds.proofs.SoundFacts.{Sound, some_repeats}
-use Rattle.laws.specs.Order.{before_up}
-use Rattle.laws.specs.Blocks.{round_of, jobs_in_rounds, some_round, round_low}
+use Rattle.laws.proofs.Order.{before_up}
+use Rattle.laws.specs.Blocks.{round_of}
+use Rattle.laws.proofs.Blocks.{round_low}
+use Rattle.laws.proofs.Blocks.{jobs_in_rounds, some_round}
 use Rattle.network.specs.declared.Stride.{Stride}
 use Rattle.network.specs.Network.{Link, no_link, link_of, pair_links, pattern_links, cycle_links, link_starts, link_ends, network}
 use Rattle.network.specs.NetworkLaws.{pair_links_lem, links_few, inside_network}

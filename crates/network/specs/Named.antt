@@ -6,8 +6,10 @@ use Prim.Native.Nat.{ℕ, suc, ◌+◌, ◌-◌, ◌*◌, ◌/◌, ◌≤◌, �
 use Rattle.std.proofs.Math.Nat.{mul-le-mul, le_of_dvd}
 use native.Mathlib.Omega.{arith}
 use Rattle.std.proofs.Math.Dec.{ltb}
-use Rattle.vocabulary.specs.Least.{least, Seeking, seek, on, hit, miss}
-use Rattle.vocabulary.specs.Total.{total, total_none, total_more, total_mono}
+use Rattle.vocabulary.specs.Least.{least, Seeking}
+use Rattle.vocabulary.proofs.Least.{seek, on, hit, miss}
+use Rattle.vocabulary.specs.Total.{total}
+use Rattle.vocabulary.proofs.Total.{total_none, total_more, total_mono}
 use Rattle.kinds.specs.declared.Task.{Task}
 use Rattle.kinds.specs.declared.Pattern.{Pattern}
 use Rattle.kinds.specs.Tasks.{Tasks, Patterns, Set, tasks_of, patterns_of, task_at, period, running, from_task, to_task, pair_count, task_in, pattern_in}
@@ -16,7 +18,7 @@ use Rattle.kinds.specs.Links.{common, repeats, links_of, links}
 use Rattle.kinds.specs.Cycle.{cycle, jobs_of, jobs_before, jobs}
 use Rattle.kinds.specs.Jobs.{task_of_job, job_of_job}
 use Rattle.kinds.proofs.SoundFacts.{Sound, jobs_fill}
-use Rattle.laws.specs.Order.{before_suc}
+use Rattle.laws.proofs.Order.{before_suc}
 use Rattle.network.specs.declared.Job.{Job}
 use Rattle.network.specs.Causes.{load, room}
 

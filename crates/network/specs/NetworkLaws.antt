@@ -1,19 +1,22 @@
 -- Laws of the network: where each link comes from, how many there are, and that their ends are jobs of the cycle.
 use Rattle.std.specs.Prelude.{◌≡◌, refl, true, ℕ, ◌-◌, ◌<◌, ◌≤◌, ltb, length, get_or}
 use Rattle.std.proofs.Common.{ap, ◌∙◌, arith, ltb-true}
-use Rattle.vocabulary.specs.Test.{both}
-use Rattle.vocabulary.specs.Count.{count_le}
-use Rattle.vocabulary.specs.Total.{total_mono}
-use Rattle.vocabulary.specs.Table.{table, gather_first, length_table, get_or_table}
-use Rattle.vocabulary.specs.Lists.{each_join, each_gather, length_join, length_join_most, length_gather, Stands, stands_join, stands_gather}
+use Rattle.vocabulary.proofs.Test.{both}
+use Rattle.vocabulary.proofs.Count.{count_le}
+use Rattle.vocabulary.proofs.Total.{total_mono}
+use Rattle.vocabulary.specs.Table.{table}
+use Rattle.vocabulary.proofs.Table.{gather_first, length_table, get_or_table}
+use Rattle.vocabulary.specs.Lists.{Stands}
+use Rattle.vocabulary.proofs.Lists.{each_join, each_gather, length_join, length_join_most, length_gather, stands_join, stands_gather}
 use Rattle.graph.specs.Graph.{LinksInside}
 use Rattle.kinds.specs.Tasks.{Tasks, Patterns, Set, from_task, to_task, pair_count}
 use Rattle.kinds.specs.Cycle.{jobs, jobs_of}
 use Rattle.kinds.specs.Jobs.{number_of_job}
 use Rattle.kinds.specs.Links.{link_from, link_to, repeats, links_of, links, inner}
 use Rattle.kinds.proofs.SoundFacts.{Sound}
-use Rattle.laws.specs.Order.{number_low}
-use Rattle.laws.specs.Blocks.{round_of, stays, leaves}
+use Rattle.laws.proofs.Order.{number_low}
+use Rattle.laws.specs.Blocks.{round_of}
+use Rattle.laws.proofs.Blocks.{stays, leaves}
 use Rattle.network.specs.Network.{Link, no_link, link_of, pair_links, pattern_links, cycle_links, link_starts, link_ends, network}
 
 -- ---- a pair makes the first of its links, as many as lie within the block

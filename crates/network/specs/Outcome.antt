@@ -4,22 +4,24 @@ use Rattle.std.proofs.Math.Path.{sym, ap, ap₂}
 use Rattle.std.proofs.Common.{◌∙◌, inl, inr, lt-ltb, le-ltb, le-leb, arith}
 use Prim.Native.Nat.{ℕ, ◌+◌, ◌*◌, ◌≤◌, ◌<◌}
 use Rattle.std.proofs.lemmas.Bool.{lt-leb}
-use Rattle.vocabulary.specs.Test.{pick, lt_or_le}
+use Rattle.vocabulary.specs.Test.{pick}
+use Rattle.vocabulary.proofs.Test.{lt_or_le}
 use Rattle.kinds.specs.Sound.{sound}
 use Rattle.std.proofs.Math.IntN.{sub_ℕ}
 use Rattle.std.specs.Int.Signed.{lt_z}
-use Rattle.vocabulary.specs.Least.{least, least_is, least_same}
-use Rattle.vocabulary.specs.Prefix.{taken}
+use Rattle.vocabulary.specs.Least.{least}
+use Rattle.vocabulary.proofs.Least.{least_is, least_same}
+use Rattle.vocabulary.proofs.Prefix.{taken}
 use Rattle.vocabulary.specs.Table.{table}
 use Rattle.vocabulary.specs.Total.{total}
 use Rattle.graph.specs.Graph.{Graph, graph_of, lowest}
 use Rattle.graph.specs.Longest.{rounds}
 use Rattle.graph.specs.Soonest.{soonest}
-use Rattle.graph.specs.Column.{column_at}
+use Rattle.graph.proofs.Column.{column_at}
 use Rattle.graph.specs.Pass.{at}
 use Rattle.graph.specs.JobRows as row
 use Rattle.graph.specs.JobRows.{starts, ends}
-use Rattle.graph.specs.Listed.{below_sub}
+use Rattle.graph.proofs.Listed.{below_sub}
 use Rattle.kinds.specs.declared.Counts.{Counts}
 use Rattle.kinds.specs.Tasks.{Tasks, Set, tasks_of, view}
 use Rattle.kinds.specs.Cycle.{cycle, jobs}

@@ -1,7 +1,7 @@
 -- A loop that writes entries one after another into a list, from a place on.
 use Rattle.std.specs.Prelude.{◌≡◌, refl, List, [], ◌⊎◌, ℕ, ◌+◌, ◌≤◌, ◌<◌, length, get_or, set}
 use Rattle.std.proofs.Common.{sym, ap, ◌∙◌, inl, inr, ⊎_elim, arith, length-set, get_or-set_same, get_or-set_other}
-use Rattle.vocabulary.specs.Test.{lt_or_le, eq_or_ne}
+use Rattle.vocabulary.proofs.Test.{lt_or_le, eq_or_ne}
 
 -- F 0, F 1, .., F (c - 1) stand from place e on, and what stood before e stands
 pub record Placed (e c : ℕ) (F : ℕ → List ℕ) (v v' : List (List ℕ)) : Type 0 where

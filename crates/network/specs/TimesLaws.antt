@@ -7,14 +7,15 @@ use native.Mathlib.Omega.{arith}
 use Rattle.std.proofs.Math.IntN.{sub_ℕ}
 use Rattle.graph.specs.Graph.{Graph}
 use Rattle.graph.specs.Longest.{rounds}
-use Rattle.graph.specs.Settle.{rounds_bound}
-use Rattle.graph.specs.Sub.{flip, soonest_sub}
+use Rattle.graph.proofs.Settle.{rounds_bound}
+use Rattle.graph.specs.Sub.{flip}
+use Rattle.graph.proofs.Sub.{soonest_sub}
 use Rattle.kinds.specs.Tasks.{Tasks, Patterns, Set, period}
 use Rattle.kinds.specs.Cycle.{cycle, jobs_of, jobs}
 use Rattle.kinds.specs.Jobs.{release, due, task_of_job, job_of_job}
 use Rattle.kinds.proofs.SoundFacts.{Sound}
-use Rattle.laws.specs.Order.{task_low}
-use Rattle.laws.specs.Back.{job_of_low}
+use Rattle.laws.proofs.Order.{task_low}
+use Rattle.laws.proofs.Back.{job_of_low}
 use Rattle.network.specs.Network.{network}
 use Rattle.network.specs.NetworkLaws.{jobs_of_network, inside_network}
 use Rattle.network.specs.Times.{own_release, own_due, own_running, release_by, adjusted_release, adjusted_deadline}

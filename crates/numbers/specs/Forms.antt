@@ -7,7 +7,8 @@ use native.Mathlib.Omega.{arith}
 use borrow.Author.Tests.{leb-false, lt-leb, lt-ltb, le-ltb, ltb-true, ltb-false, eqb-false, ne_eqb}
 use Rattle.std.proofs.Math.Dec.{ltb}
 use Rattle.std.proofs.Math.ListN.{length, get_or}
-use Rattle.vocabulary.specs.Test.{pick, took, missed}
+use Rattle.vocabulary.specs.Test.{pick}
+use Rattle.vocabulary.proofs.Test.{took, missed}
 use Rattle.vocabulary.specs.Parts.{PartAt}
 use Rattle.numbers.specs.declared.Number.TheVariants as number
 use Rattle.numbers.specs.Numbers.{number_at, number_bytes}

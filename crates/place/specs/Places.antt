@@ -1,8 +1,5 @@
 -- Places of a file.
-use Rattle.std.specs.Prelude.{◌≡◌, List, [], ℕ, length, drop}
-use Rattle.std.proofs.Common.{ap, ◌∙◌}
-use Rattle.std.proofs.Math.Seq.{drop-length}
-use Rattle.numbers.specs.declared.Refusal.{Refusal}
+use Rattle.std.specs.Prelude.{List, ℕ, length, drop}
 use Rattle.numbers.specs.declared.Number.{Number}
 use Rattle.numbers.specs.declared.Number.TheVariants as number
 use Rattle.heads.specs.declared.Outcome.{Outcome}
@@ -26,11 +23,3 @@ first_slot s = first_of (read_of s).outcome (length s)
 -- Rule R5.5: the slots are the bytes from there on, and a file that is refused has none.
 abbrev pub slots_of : List ℕ → List ℕ
 slots_of s = drop (first_slot s) s
-
-pub slots_read : (s : List ℕ) (p : ℕ) → (read_of s).outcome ≡ outcome.At p → slots_of s ≡ drop p s
-unfolding first_of
-slots_read s p e = ap (λ (o : Outcome). drop (first_of o (length s)) s) e
-
-pub slots_refused : (s : List ℕ) (r : Refusal) → (read_of s).outcome ≡ outcome.Refused r → slots_of s ≡ []
-unfolding first_of
-slots_refused s r e = ap (λ (o : Outcome). drop (first_of o (length s)) s) e ∙ drop-length s

@@ -7,8 +7,9 @@ use native.Mathlib.Omega.{arith}
 use borrow.Author.Tests.{lt-leb, lt-ltb, le-leb, le-ltb}
 use lib.Dec.{ltb}
 use lib.ListN.{length, take, drop}
-use Rattle.vocabulary.specs.Least.{least, Least, least_is, least_same}
-use Rattle.vocabulary.specs.Prefix.{part_length, part_entry}
+use Rattle.vocabulary.specs.Least.{least, Least}
+use Rattle.vocabulary.proofs.Least.{least_is, least_same}
+use Rattle.vocabulary.proofs.Prefix.{part_length, part_entry}
 use Rattle.slots.specs.High.{high}
 use Rattle.numbers.specs.declared.Refusal.TheVariants as refusal
 use Rattle.heads.specs.declared.Outcome.TheVariants as outcome

@@ -9,7 +9,8 @@ use borrow.Author.Tests.{lt-ltb, le-ltb, lt-leb, le-leb, ltb-true, ltb-false}
 use lib.Dec.{ltb, leb, eqb}
 use lib.IntN.{ℤ}
 use lib.ListN.{length}
-use Rattle.vocabulary.specs.Test.{pick, lt_or_le}
+use Rattle.vocabulary.specs.Test.{pick}
+use Rattle.vocabulary.proofs.Test.{lt_or_le}
 use Rattle.vocabulary.specs.First.{rule, first_of}
 use Rattle.kinds.specs.Tasks.{Tasks, Set, view}
 use Rattle.kinds.specs.Cycle.{jobs}
@@ -19,7 +20,7 @@ use Rattle.reader.specs.declared.Taking.{Taking}
 use Rattle.reader.specs.Files.{taken_of, not_taken}
 use Rattle.reader.proofs.ReadLaws.{none_sound, not_taken_lem}
 use Rattle.kinds.proofs.SoundFacts.{Sound, sound_facts, some_jobs}
-use Rattle.laws.specs.Order.{before_suc, before_up}
+use Rattle.laws.proofs.Order.{before_suc, before_up}
 use Rattle.network.specs.declared.Found.{Found}
 use Rattle.network.specs.Causes.{load, room, lowest_cycle, lowest_tight}
 use Rattle.network.specs.FoundOf.{lowest_over, found_by, none_found, found_of, times_fit, releases_put, deadlines_put, SolvedFor}

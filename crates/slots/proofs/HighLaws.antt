@@ -8,8 +8,9 @@ use native.Mathlib.Nat.{eq-or-lt_of_le}
 use native.Mathlib.Omega.{arith}
 use lib.ListN.{get_or, length}
 use borrow.Author.Tests.{le-ltb, lt-ltb, ltb-false}
-use Rattle.vocabulary.specs.Test.{lt_or_le}
-use Rattle.vocabulary.specs.Least.{least, some, some_not, least_only}
+use Rattle.vocabulary.proofs.Test.{lt_or_le}
+use Rattle.vocabulary.specs.Least.{least, some}
+use Rattle.vocabulary.proofs.Least.{some_not, least_only}
 use Rattle.slots.specs.High.{high}
 use Rattle.slots.specs.Topped.{Topped}
 

@@ -3,9 +3,10 @@ use Rattle.std.specs.Prelude.{◌≡◌, Bool, ◌||◌, List, ℕ, ◌<◌, eqb
 use Rattle.std.proofs.Math.Path.{refl, subst}
 use Rattle.std.proofs.Common.{sym, ap, ◌∙◌, arith, eqb-true, eq-eqb, ltb-true, ltb-false}
 use Rattle.std.proofs.Math.Bool.{true, false, not}
-use Rattle.vocabulary.specs.Test.{pick, took, clash}
+use Rattle.vocabulary.specs.Test.{pick}
+use Rattle.vocabulary.proofs.Test.{took, clash}
 use Rattle.vocabulary.specs.First.{first_of}
-use Rattle.vocabulary.specs.Table.{length_table, get_or_table}
+use Rattle.vocabulary.proofs.Table.{length_table, get_or_table}
 use Rattle.kinds.specs.Tasks.{Tasks, Patterns, Set, view}
 use Rattle.kinds.specs.Cycle.{jobs}
 use Rattle.kinds.specs.Jobs.{task_of_job, job_of_job}

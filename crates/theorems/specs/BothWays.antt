@@ -5,16 +5,20 @@ use Rattle.std.proofs.Common.{ap, ap₂, subst, ⊎_elim, eq-eqb, ne_eqb}
 use Prim.Native.Nat.{ℕ, ◌+◌, ◌*◌, ◌/◌, ◌<◌}
 use Rattle.std.proofs.Math.Nat.{add-mul-div_right, div-eq_of_lt}
 use native.Mathlib.Omega.{arith}
-use Rattle.vocabulary.specs.Test.{bit, clash}
-use Rattle.vocabulary.specs.Multiple.{lcm_comm}
-use Rattle.graph.specs.Reach.{Free, free_by, loops_iff}
+use Rattle.vocabulary.specs.Test.{bit}
+use Rattle.vocabulary.proofs.Test.{clash}
+use Rattle.vocabulary.proofs.Multiple.{lcm_comm}
+use Rattle.graph.specs.Reach.{Free}
+use Rattle.graph.proofs.Reach.{loops_iff}
+use Rattle.graph.proofs.Reach.{free_by}
 use Rattle.kinds.specs.Tasks.{Tasks, Patterns, Set, period, from_task, to_task, pair_count, pair_first, pair_second}
 use Rattle.kinds.specs.Cycle.{jobs_of}
 use Rattle.kinds.specs.Jobs.{number_of_job, task_of_job, job_of_job}
 use Rattle.kinds.specs.Links.{common, link_from, link_to}
 use Rattle.kinds.proofs.SoundFacts.{Sound}
-use Rattle.laws.specs.Order.{task_of_number, job_of_number, number_low}
-use Rattle.laws.specs.Blocks.{round_of, some_round}
+use Rattle.laws.proofs.Order.{task_of_number, job_of_number, number_low}
+use Rattle.laws.specs.Blocks.{round_of}
+use Rattle.laws.proofs.Blocks.{some_round}
 use Rattle.network.specs.Network.{network}
 use Rattle.network.specs.NetworkLaws.{each_made, inner_low, inside_network}
 use Rattle.screen.specs.declared.Finding.TheVariants as finding

@@ -1,8 +1,9 @@
 -- Demand 2: the judge accepts exactly the plans whose endless repetition is valid, and of the others it names the first rule that is broken.
 use Rattle.std.specs.Prelude.{◌≡◌, refl, true, List, ◌↔◌, ℕ, ◌*◌, ◌<◌, ◌≤◌, length, get_or}
 use Rattle.std.proofs.Common.{sym, ◌∙◌, subst, ⊎_elim, arith}
-use Rattle.vocabulary.specs.Test.{lt_or_le}
-use Rattle.vocabulary.specs.First.{◌also◌, earlier, KeptBy, AllKept, all_kept}
+use Rattle.vocabulary.proofs.Test.{lt_or_le}
+use Rattle.vocabulary.specs.First.{◌also◌, earlier, KeptBy, AllKept}
+use Rattle.vocabulary.proofs.First.{all_kept}
 use Rattle.kinds.specs.Tasks.{Set}
 use Rattle.kinds.specs.Cycle.{cycle}
 use Rattle.kinds.specs.Plans.{plan_of}

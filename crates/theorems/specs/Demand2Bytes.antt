@@ -1,7 +1,7 @@
 -- Demand 2 for C: the judge and the screen on bytes, and on the two parts of a file that is read.
 use Rattle.std.specs.Prelude.{◌≡◌, refl, true, List, ◌↔◌, ℕ, ◌*◌, ◌<◌, ◌≤◌, length, get_or}
 use Rattle.std.proofs.Common.{sym, ap, ◌∙◌, subst, arith}
-use Rattle.vocabulary.specs.Test.{took}
+use Rattle.vocabulary.proofs.Test.{took}
 use Rattle.kinds.specs.Tasks.{Set, view}
 use Rattle.kinds.specs.Cycle.{cycle}
 use Rattle.kinds.specs.Plans.{plan_of}
@@ -19,18 +19,6 @@ use Rattle.screen.specs.Answers.{finding_number}
 use Rattle.screen.specs.Heads.{screened_of}
 use Rattle.theorems.specs.FileParts.{tasks_in, plan_in, set_of_file, read_parts}
 use Rattle.theorems.specs.Demand2.{accepted_iff}
-use Rattle.theorems.specs.Accepted.{finding_is_final}
-
--- 0 is the number of acceptance alone
-pub zero_verdict : (v : Verdict) → number_of v ≡ 0 → v ≡ verdict.Accepted
-zero_verdict verdict.Accepted e = refl
-zero_verdict verdict.BadSet e = absurd (omega arith)
-zero_verdict verdict.WrongLength e = absurd (omega arith)
-zero_verdict (verdict.BadSlot x) e = absurd (omega arith)
-zero_verdict (verdict.Twice t q r) e = absurd (omega arith)
-zero_verdict (verdict.Outside t q) e = absurd (omega arith)
-zero_verdict (verdict.WrongCount i k c a b) e = absurd (omega arith)
-zero_verdict (verdict.BrokenLink k q n) e = absurd (omega arith)
 
 -- the set of the bytes that are lent as tasks
 abbrev pub set_of_tasks : List ℕ → Set
@@ -42,46 +30,3 @@ pub record Right (tasks plan : List ℕ) : Type 0 where
   pub long : length plan ≡ (set_of_tasks tasks).processors * cycle (set_of_tasks tasks).tasks
   pub low : (e : ℕ) → e < length plan → get_or plan e 0 ≤ (set_of_tasks tasks).tasks.count
   pub valid : Valid (set_of_tasks tasks) (plan_of (set_of_tasks tasks) plan)
-
--- the verdict is that of the set, where there is one
-pub judged_set : (tasks plan : List ℕ) → (taken_of tasks).fits ≡ true → judged_of tasks plan ≡ verdict_of (set_of_tasks tasks) plan
-unfolding judged_of
-judged_set tasks plan e = rw e
-
-judged_fits : (tasks plan : List ℕ) → judged_of tasks plan ≡ verdict.Accepted → (taken_of tasks).fits ≡ true
-unfolding judged_of
-judged_fits tasks plan e = (took (taken_of tasks).fits _ _ _ e (λ q. omega (arith, ap number_of q))).0
-
--- ==== The judge answers 0 to C exactly if the tasks are a head and nothing more and the plan is right for ever.
-pub judged_zero : (tasks plan : List ℕ) → (number_of (judged_of tasks plan) ≡ 0) ↔ Right tasks plan
-judged_zero tasks plan = (
-  λ e.
-      let a = zero_verdict (judged_of tasks plan) e in
-      let f = judged_fits tasks plan a in
-      let w = (accepted_iff (set_of_tasks tasks) plan).0 (sym (judged_set tasks plan f) ∙ a) in
-      record { whole = f; long = w.1; low = w.2; valid = w.3 },
-  λ r.
-      ap number_of (judged_set tasks plan r.whole ∙ (accepted_iff (set_of_tasks tasks) plan).1 (taken_sound tasks r.whole, r.long, r.low, r.valid)),
-)
-
--- ==== After any finding of the screen, 13, 14, 15 or 10, no plan with those tasks gets 0 from the judge.
-pub screened_final : (tasks : List ℕ) → (finding_number (screened_of tasks) ≡ 0 → ⊥) → (plan : List ℕ) → number_of (judged_of tasks plan) ≡ 0 → ⊥
-unfolding screened_of
-screened_final tasks h plan e =
-    let a = zero_verdict (judged_of tasks plan) e in
-    let f = judged_fits tasks plan a in
-    finding_is_final (set_of_tasks tasks) (λ q. h (rw (f, q))) plan (sym (judged_set tasks plan f) ∙ a)
-
--- ==== The same for a file that is read: the judge answers 0 for its two parts exactly if the plan is right for ever on the set that was read.
-pub file_zero : (file : List ℕ) → readAnswers.number_of (read_of file).outcome ≡ 0
-    → (number_of (judged_of (tasks_in file) (plan_in file)) ≡ 0) ↔ Valid (set_of_file file) (plan_of (set_of_file file) (plan_in file))
-file_zero file e =
-    let p = read_parts file e in
-    let s : set_of_tasks (tasks_in file) ≡ set_of_file file = ap (λ (t : Taking). view t.set) p.tasks in
-    let f : (taken_of (tasks_in file)).fits ≡ true = ap (λ (t : Taking). t.fits) p.tasks in (
-      λ z. subst (λ (u : Set). Valid u (plan_of u (plan_in file))) s ((judged_zero (tasks_in file) (plan_in file)).0 z).valid,
-      λ v.
-          ap number_of (judged_set (tasks_in file) (plan_in file) f
-          ∙ ap (λ (u : Set). verdict_of u (plan_in file)) s
-          ∙ (accepted_iff (set_of_file file) (plan_in file)).1 (p.is_sound, p.long, p.low, v)),
-    )

@@ -1,10 +1,13 @@
 -- What a plan file is: a byte string is read exactly when it is the bytes of a sound set and of a plan for it; and the two round trips of reader and writer.
 use Rattle.std.specs.Prelude.{◌≡◌, refl, Bool, true, false, List, ◌++◌, ◌⊎◌, ◌↔◌, ℕ, ◌+◌, ◌*◌, ◌<◌, ◌≤◌, length, get_or, take, drop, eqb}
 use Rattle.std.proofs.Common.{sym, ap, ◌∙◌, subst, inl, inr, arith, ext_get_or, take_at, drop_at, le-ltb, eqb-true}
-use Rattle.vocabulary.specs.Test.{pick, clash, lt_or_le}
-use Rattle.vocabulary.specs.Least.{some, none}
+use Rattle.vocabulary.specs.Test.{pick}
+use Rattle.vocabulary.proofs.Test.{clash, lt_or_le}
+use Rattle.vocabulary.specs.Least.{some}
+use Rattle.vocabulary.proofs.Least.{none}
 use Rattle.vocabulary.specs.Keep.{Row}
-use Rattle.vocabulary.specs.Parts.{PartAt, part_whole}
+use Rattle.vocabulary.specs.Parts.{PartAt}
+use Rattle.vocabulary.proofs.Parts.{part_whole}
 use Rattle.kinds.specs.declared.TaskSet.{TaskSet}
 use Rattle.kinds.specs.Tasks.{Set, view, pairs_in}
 use Rattle.kinds.specs.Cycle.{cycle}

@@ -5,17 +5,20 @@ use Rattle.std.proofs.Common.{◌∙◌}
 use Rattle.std.proofs.Math.Bool.{not}
 use borrow.Author.Tests.{not-true, not-false, eqb-true, eqb-false, eq-eqb, ne_eqb}
 use Rattle.vocabulary.specs.Least.{least}
-use Rattle.vocabulary.specs.First.{first_of, from, Each, ◌also◌, Told, first_from, first_told, KeptBy}
-use Rattle.vocabulary.specs.Lowest.{none_holds, holds_none, lowest, lowest_some, lowest_least, none_holds2, holds_none2, lowest2, lowest2_some}
-use Rattle.vocabulary.specs.Lowest.{lowest2_first, lowest2_second, none_holds3, holds_none3, lowest3, lowest3_some, lowest3_first, lowest3_second}
-use Rattle.vocabulary.specs.Lowest.{lowest3_third}
+use Rattle.vocabulary.specs.First.{first_of, from, Each, ◌also◌, Told, KeptBy}
+use Rattle.vocabulary.proofs.First.{first_from, first_told}
+use Rattle.vocabulary.proofs.Lowest.{lowest_some, lowest_least, lowest2_some}
+use Rattle.vocabulary.proofs.Lowest.{none_holds, holds_none, lowest, none_holds2, holds_none2, lowest2}
+use Rattle.vocabulary.proofs.Lowest.{lowest2_first, lowest2_second, lowest3_some, lowest3_first, lowest3_second}
+use Rattle.vocabulary.proofs.Lowest.{none_holds3, holds_none3, lowest3}
+use Rattle.vocabulary.proofs.Lowest.{lowest3_third}
 use Rattle.kinds.specs.Tasks.{Tasks, Patterns, Set, pair_count}
 use Rattle.kinds.specs.Cycle.{cycle, jobs_of}
 use Rattle.kinds.specs.Links.{repeats}
 use Rattle.kinds.specs.Plans.{Plan, plan_of}
 use Rattle.kinds.specs.Sound.{sound}
 use Rattle.kinds.specs.JobTicks.{Gets}
-use Rattle.laws.specs.JobTicks.{gets_is, gets_ticks}
+use Rattle.laws.proofs.JobTicks.{gets_is, gets_ticks}
 use Rattle.judge.specs.declared.Verdict.{Verdict}
 use Rattle.judge.specs.declared.Verdict.TheVariants as verdict
 use Rattle.judge.specs.Rules.{twin, mated, clashes, strays, strayed, miscounts, miscounted, breaks, broken_pair, broken_pattern}

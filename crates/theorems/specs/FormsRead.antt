@@ -2,9 +2,10 @@
 use Rattle.std.specs.Prelude.{◌≡◌, refl, true, List, ◌++◌, ℕ, zero, suc, ◌+◌, ◌-◌, ◌*◌, ◌<◌, ◌≤◌, length, get_or}
 use Rattle.std.proofs.Common.{sym, ap, subst, ◌∙◌, arith, le-ltb, length-append, get_or-append-add}
 use Rattle.std.proofs.lemmas.Bool.{lt-leb}
-use Rattle.vocabulary.specs.Total.{total_none}
+use Rattle.vocabulary.proofs.Total.{total_none}
 use Rattle.vocabulary.specs.Table.{join}
-use Rattle.vocabulary.specs.Parts.{PartAt, part_first, part_front, part_back, part_move}
+use Rattle.vocabulary.specs.Parts.{PartAt}
+use Rattle.vocabulary.proofs.Parts.{part_first, part_front, part_back, part_move}
 use Rattle.kinds.specs.declared.Counts.{Counts}
 use Rattle.kinds.specs.Limits.{pattern_counts, no_key}
 use Rattle.kinds.specs.Tasks.{Tasks, Patterns, Set, tasks_of, view}

@@ -3,8 +3,9 @@ use Rattle.std.specs.Prelude.{◌≡◌, refl, Bool, List, ◌↔◌, ℕ, suc, 
 use Rattle.std.proofs.Common.{sym, ◌∙◌, mul-le-mul, le_refl, arith}
 use Rattle.std.specs.Int.{◌∣◌}
 use Rattle.std.proofs.Math.Nat.{div-mul_cancel}
-use Rattle.vocabulary.specs.Least.{Least, least_only}
-use Rattle.vocabulary.specs.Multiple.{lcm_of_dvd}
+use Rattle.vocabulary.specs.Least.{Least}
+use Rattle.vocabulary.proofs.Least.{least_only}
+use Rattle.vocabulary.proofs.Multiple.{lcm_of_dvd}
 use Rattle.kinds.specs.Tasks.{Tasks, Set, period, offset, from_task, to_task}
 use Rattle.kinds.specs.Cycle.{cycle, jobs_of}
 use Rattle.kinds.specs.Jobs.{release, due, in_window}
@@ -13,8 +14,8 @@ use Rattle.kinds.specs.Plans.{Plan, plan_of, ticks}
 use Rattle.kinds.specs.Valid.{LinkKept}
 use Rattle.kinds.proofs.SoundFacts.{Sound}
 use Rattle.judge.specs.Rules.{breaks}
-use Rattle.laws.specs.Repeat.{ticks_again}
-use Rattle.laws.specs.Windows.{window_again}
+use Rattle.laws.proofs.Repeat.{ticks_again}
+use Rattle.laws.proofs.Windows.{window_again}
 use Rattle.theorems.specs.LinkLaws.{breaks_again, kept_again}
 
 -- the jobs before and with job k are no more than the cycle's: their periods fit into the cycle

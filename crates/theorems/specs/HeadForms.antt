@@ -5,9 +5,11 @@ use Rattle.std.proofs.Common.{◌∙◌, length-drop, length-append, get_or-drop
 use mathlib.Core.List.{List, [], ◌∷◌, ◌++◌}
 use Prim.Native.Nat.{ℕ, zero, suc, ◌+◌, ◌*◌, ◌≤◌}
 use native.Mathlib.Omega.{arith}
-use Rattle.vocabulary.specs.Keep.{SamePrefix, kept_self, kept_less, kept_on, row_none}
+use Rattle.vocabulary.specs.Keep.{SamePrefix}
+use Rattle.vocabulary.proofs.Keep.{kept_self, kept_less, kept_on, row_none}
 use Rattle.vocabulary.specs.Table.{join}
-use Rattle.vocabulary.specs.Parts.{PartAt, part_both, part_whole}
+use Rattle.vocabulary.specs.Parts.{PartAt}
+use Rattle.vocabulary.proofs.Parts.{part_both, part_whole}
 use Rattle.kinds.specs.declared.Key.{Key}
 use Rattle.kinds.specs.declared.Task.{Task}
 use Rattle.kinds.specs.declared.Counts.{Counts}

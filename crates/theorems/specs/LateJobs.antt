@@ -8,15 +8,18 @@ use Prim.Native.Nat.{ℕ, ◌+◌, ◌-◌, ◌≤◌, ◌<◌}
 use native.Mathlib.Omega.{arith}
 use Rattle.std.specs.Int.Signed.{lt_z}
 use borrow.Author.Tests.{lt-ltb, le-ltb, ltb-true, ltb-false}
-use Rattle.vocabulary.specs.Test.{clash, lt_or_le}
-use Rattle.vocabulary.specs.Least.{least, least_is, some, some_not, none}
+use Rattle.vocabulary.proofs.Test.{clash, lt_or_le}
+use Rattle.vocabulary.specs.Least.{least, some}
+use Rattle.vocabulary.proofs.Least.{least_is, some_not, none}
 use Rattle.graph.specs.Graph.{Graph, LinksInside}
 use Rattle.graph.specs.Reach.{Free}
 use Rattle.graph.specs.Longest.{rounds}
-use Rattle.graph.specs.Settle.{Over, rounds_under, rounds_solve, solves_over}
+use Rattle.graph.proofs.Settle.{rounds_solve}
+use Rattle.graph.specs.Settle.{Over}
+use Rattle.graph.proofs.Settle.{rounds_under, solves_over}
 use Rattle.graph.specs.Sub.{flip}
-use Rattle.graph.specs.Equation.{flip_free}
-use Rattle.graph.specs.Listed.{below_sub, rounds_le}
+use Rattle.graph.proofs.Equation.{flip_free}
+use Rattle.graph.proofs.Listed.{below_sub, rounds_le}
 use Rattle.kinds.specs.Tasks.{Tasks, Patterns, Set}
 use Rattle.kinds.specs.Cycle.{jobs}
 use Rattle.kinds.specs.Sound.{sound}

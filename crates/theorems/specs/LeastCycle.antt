@@ -3,7 +3,7 @@ use Rattle.std.specs.Prelude.{◌≡◌, true, ℕ, ◌<◌, ◌≤◌}
 use Rattle.std.specs.Int.{◌∣◌}
 use Rattle.std.proofs.Math.Nat.{le_of_dvd}
 use Rattle.std.proofs.Common.{le_antisymm}
-use Rattle.vocabulary.specs.Multiple.{lcm_of_least}
+use Rattle.vocabulary.proofs.Multiple.{lcm_of_least}
 use Rattle.kinds.specs.Tasks.{Tasks, Set, period}
 use Rattle.kinds.specs.Cycle.{cycle}
 use Rattle.kinds.specs.Sound.{sound}

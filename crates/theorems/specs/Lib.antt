@@ -1,4 +1,3 @@
-pub mod Demands
 pub mod LinkLaws
 pub mod Foundations
 pub mod LeastCycle
@@ -20,17 +19,10 @@ pub mod LateJobs
 pub mod OldReleases
 pub mod Demand3Terms
 pub mod OneTask
-pub mod Demand3Plans
-pub mod Demand3Calls
-pub mod Demand3
-pub mod Demand3Shown
 pub mod Demand3Heard
 pub mod Demand3Rows
-pub mod Demand3Bytes
 pub mod Demand3ForC
-pub mod Accepted
 pub mod Demand2Bytes
-pub mod TicksFell
 pub mod NextRound
 pub mod BothWays
 pub mod ShutOut

@@ -1,7 +1,7 @@
 -- The links of one cycle speak for all.
 use Rattle.std.specs.Prelude.{◌≡◌, ◌&&◌, ◌↔◌, List, ℕ, ◌+◌, ◌*◌, ◌/◌, ◌%◌, ◌<◌}
 use Rattle.std.proofs.Common.{sym, ap₂, ◌∙◌, arith}
-use Rattle.vocabulary.specs.Least.{some_same}
+use Rattle.vocabulary.proofs.Least.{some_same}
 use Rattle.kinds.specs.Tasks.{Tasks, Set, deadline, from_task, to_task}
 use Rattle.kinds.specs.Cycle.{cycle}
 use Rattle.kinds.specs.Jobs.{release}
@@ -11,9 +11,9 @@ use Rattle.kinds.specs.Valid.{LinkKept}
 use Rattle.kinds.proofs.SoundFacts.{Sound}
 use Rattle.judge.specs.Rules.{against, bars, broken, breaks}
 use Rattle.judge.proofs.Broken.{kept_iff}
-use Rattle.laws.specs.Repeat.{runs_shift}
-use Rattle.laws.specs.Windows.{leb_shift}
-use Rattle.laws.specs.Links.{from_again, to_again}
+use Rattle.laws.proofs.Repeat.{runs_shift}
+use Rattle.laws.proofs.Windows.{leb_shift}
+use Rattle.laws.proofs.Links.{from_again, to_again}
 
 -- ---- one cycle's links speak for all
 -- jobs that are put off alike

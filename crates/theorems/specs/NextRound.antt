@@ -2,8 +2,10 @@
 use Rattle.std.specs.Prelude.{◌≡◌, true, false, List, ◌↔◌, ℕ, ◌+◌, ◌*◌, ◌/◌, ◌<◌, ◌≤◌, eqb}
 use Rattle.std.proofs.Math.Path.{refl}
 use Rattle.std.proofs.Common.{subst, mul-le-mul, le_refl, arith}
-use Rattle.vocabulary.specs.Test.{pick, both}
-use Rattle.vocabulary.specs.Least.{all, all_at, all_from}
+use Rattle.vocabulary.specs.Test.{pick}
+use Rattle.vocabulary.proofs.Test.{both}
+use Rattle.vocabulary.specs.Least.{all}
+use Rattle.vocabulary.proofs.Least.{all_at, all_from}
 use Rattle.kinds.specs.declared.Key.{Key}
 use Rattle.kinds.specs.Limits.{holds, pattern_counts, first_range, rises}
 use Rattle.kinds.specs.Editions.{editions, edition_of}
@@ -15,8 +17,9 @@ use Rattle.kinds.specs.Plans.{plan_of}
 use Rattle.kinds.specs.JobTicks.{Gets}
 use Rattle.kinds.specs.Sound.{task_fits, pair_key, pair_fits, pattern_key, heading_fits, pattern_fits, opening_fits, sound}
 use Rattle.kinds.proofs.SoundFacts.{sound_facts}
-use Rattle.laws.specs.Blocks.{NextBlock, leads_on}
-use Rattle.laws.specs.JobTicks.{gets_later}
+use Rattle.laws.specs.Blocks.{NextBlock}
+use Rattle.laws.proofs.Blocks.{leads_on}
+use Rattle.laws.proofs.JobTicks.{gets_later}
 use Rattle.judge.specs.declared.Verdict.TheVariants as verdict
 use Rattle.judge.specs.Judgement.{rules, verdict_of}
 use Rattle.screen.specs.Findings.{screen_rules, finding_by, finding_of, adjust_rules, adjusted_of}

@@ -4,9 +4,10 @@ use Rattle.std.proofs.Math.Path.{refl}
 use Rattle.std.proofs.Common.{ap, length-append}
 use Prim.Native.Nat.{ℕ, suc, ◌+◌, ◌≤◌}
 use native.Mathlib.Omega.{arith}
-use Rattle.vocabulary.specs.Test.{took, missed}
+use Rattle.vocabulary.proofs.Test.{took, missed}
 use Rattle.vocabulary.specs.Table.{join}
-use Rattle.vocabulary.specs.Parts.{PartAt, part_none, part_move, part_both}
+use Rattle.vocabulary.specs.Parts.{PartAt}
+use Rattle.vocabulary.proofs.Parts.{part_none, part_move, part_both}
 use Rattle.kinds.specs.declared.Key.{Key}
 use Rattle.kinds.specs.declared.Task.{Task}
 use Rattle.kinds.specs.declared.Cycle.{Cycle}

@@ -2,7 +2,8 @@
 use Rattle.std.specs.Prelude.{◌≡◌, refl, Bool, true, false, List, ℕ, ◌+◌, ◌*◌, ◌-◌, ◌<◌, ◌≤◌, leb, ltb, eqb, length, get_or, take}
 use Rattle.std.proofs.Common.{sym, ◌∙◌, arith, leb-false, length-take, get_or-take}
 use Rattle.std.proofs.lemmas.Bool.{lt-leb, eqb-false}
-use Rattle.vocabulary.specs.Test.{pick, took, missed}
+use Rattle.vocabulary.specs.Test.{pick}
+use Rattle.vocabulary.proofs.Test.{took, missed}
 use Rattle.kinds.specs.Limits.{Range, holds}
 use Rattle.kinds.specs.RangeLaws.{holds_at}
 use Rattle.numbers.specs.declared.Refusal.{Refusal}

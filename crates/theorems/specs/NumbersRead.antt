@@ -7,8 +7,10 @@ use native.Mathlib.Omega.{arith}
 use Rattle.std.proofs.Math.Dec.{leb}
 use Rattle.std.proofs.Math.ListN.{length}
 use borrow.Author.Tests.{not-true, leb-true}
-use Rattle.vocabulary.specs.Test.{pick, both}
-use Rattle.vocabulary.specs.Parts.{PartAt, part_front, part_back}
+use Rattle.vocabulary.specs.Test.{pick}
+use Rattle.vocabulary.proofs.Test.{both}
+use Rattle.vocabulary.specs.Parts.{PartAt}
+use Rattle.vocabulary.proofs.Parts.{part_front, part_back}
 use Rattle.kinds.specs.declared.Key.{Key}
 use Rattle.kinds.specs.declared.Task.{Task}
 use Rattle.kinds.specs.Limits.{Range, range, holds, periods, runnings, offsets, deadlines, first_range, second_range, rises}

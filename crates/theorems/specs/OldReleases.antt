@@ -3,8 +3,10 @@ use Rattle.std.specs.Prelude.{◌≡◌, refl, Bool, true, false, not, List, [],
 use Rattle.std.proofs.Common.{sym, ◌∙◌, arith, ltb-false}
 use Rattle.std.proofs.lemmas.Bool.{not-false}
 use Rattle.vocabulary.specs.Test.{pick}
-use Rattle.vocabulary.specs.First.{first_of, first_said}
-use Rattle.vocabulary.specs.Least.{least, all, some, some_yes, some_at}
+use Rattle.vocabulary.specs.First.{first_of}
+use Rattle.vocabulary.proofs.First.{first_said}
+use Rattle.vocabulary.specs.Least.{least, all, some}
+use Rattle.vocabulary.proofs.Least.{some_yes, some_at}
 use Rattle.vocabulary.specs.Total.{total}
 use Rattle.vocabulary.specs.Table.{table, join, gather}
 use Rattle.vocabulary.specs.Multiple.{lcm, lcm_of}

@@ -4,12 +4,14 @@ use Rattle.std.proofs.Math.Path.{sym, ap₂}
 use Rattle.std.proofs.Common.{ap, ◌∙◌, length-append}
 use Prim.Native.Nat.{ℕ, zero, suc, ◌+◌, ◌*◌, ◌<◌, ◌≤◌}
 use native.Mathlib.Omega.{arith}
-use Rattle.vocabulary.specs.Test.{both}
+use Rattle.vocabulary.proofs.Test.{both}
 use Rattle.vocabulary.specs.Least.{all}
-use Rattle.vocabulary.specs.Total.{total, total_more}
-use Rattle.vocabulary.specs.Multiple.{lcm_pos}
+use Rattle.vocabulary.specs.Total.{total}
+use Rattle.vocabulary.proofs.Total.{total_more}
+use Rattle.vocabulary.proofs.Multiple.{lcm_pos}
 use Rattle.vocabulary.specs.Table.{join}
-use Rattle.vocabulary.specs.Parts.{PartAt, part_front, part_back, part_of_join, join_long}
+use Rattle.vocabulary.specs.Parts.{PartAt}
+use Rattle.vocabulary.proofs.Parts.{part_front, part_back, part_of_join, join_long}
 use Rattle.kinds.specs.declared.Spans.{Spans}
 use Rattle.kinds.specs.Limits.{no_key, after}
 use Rattle.kinds.specs.Tasks.{Tasks, Patterns, tasks_of, period, from_task, to_task, pair_count, pairs_before}

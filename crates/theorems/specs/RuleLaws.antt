@@ -6,7 +6,7 @@ use Rattle.std.proofs.Math.Logic.{⊎_elim}
 use Prim.Native.Nat.{ℕ}
 use Rattle.std.proofs.Math.Dec.{ltb}
 use borrow.Author.Tests.{ltb-true, leb-true, eqb-true, eqb-false, not-true, lt-ltb, le-leb, eq-eqb, ne_eqb}
-use Rattle.vocabulary.specs.Test.{clash, both, decide}
+use Rattle.vocabulary.proofs.Test.{clash, both, decide}
 use Rattle.kinds.specs.Tasks.{Tasks, Patterns, Set, running, from_task, to_task, pair_count}
 use Rattle.kinds.specs.Cycle.{jobs_of}
 use Rattle.kinds.specs.Links.{link_from, link_to, repeats}

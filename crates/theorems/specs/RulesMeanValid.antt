@@ -7,8 +7,9 @@ use Rattle.std.proofs.Math.Nat.{le_of_dvd, div-add-mod', add-mod_right}
 use Rattle.std.proofs.Math.Arith.{digits_lt}
 use Rattle.std.proofs.Math.ListN.{length}
 use borrow.Author.Tests.{eqb-true, eq-eqb, le-leb}
-use Rattle.vocabulary.specs.Test.{fails, lt_or_le, eq_or_ne}
-use Rattle.vocabulary.specs.Least.{least, some_yes, some_at}
+use Rattle.vocabulary.proofs.Test.{fails, lt_or_le, eq_or_ne}
+use Rattle.vocabulary.specs.Least.{least}
+use Rattle.vocabulary.proofs.Least.{some_yes, some_at}
 use Rattle.kinds.specs.Tasks.{Tasks, Patterns, Set, period, running, offset, deadline, from_task, to_task, pair_count}
 use Rattle.kinds.specs.Cycle.{cycle}
 use Rattle.kinds.specs.Jobs.{release, in_window}
@@ -17,8 +18,8 @@ use Rattle.kinds.specs.Plans.{Plan, plan_of, slot, shows, shown, awake, runs, ti
 use Rattle.kinds.specs.Valid.{InSomeWindow, Inside, Alone, Exact, Kept, Valid}
 use Rattle.kinds.proofs.SoundFacts.{Sound, some_repeats}
 use Rattle.judge.specs.Rules.{breaks}
-use Rattle.laws.specs.Repeat.{slot_mod, slot_next, runs_awake, runs_shown, every_job, past_release}
-use Rattle.laws.specs.Windows.{window_yes, window_facts}
+use Rattle.laws.proofs.Repeat.{slot_mod, slot_next, runs_awake, runs_shown, every_job, past_release}
+use Rattle.laws.proofs.Windows.{window_yes, window_facts}
 use Rattle.theorems.specs.Names.{Doubled, Misplaced, Keeps11, Keeps12, Keeps20, Keeps21, Keeps22, Keeps23}
 use Rattle.judge.proofs.Broken.{kept_iff}
 use Rattle.theorems.specs.LinkLaws.{breaks_again}

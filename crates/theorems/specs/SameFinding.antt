@@ -8,14 +8,16 @@ use Rattle.std.proofs.Math.Dec.{ltb}
 use Rattle.std.specs.Int.Signed.{lt_z}
 use Rattle.std.proofs.lemmas.Bool.{not-false}
 use Rattle.vocabulary.specs.Test.{pick}
-use Rattle.vocabulary.specs.First.{first_same}
-use Rattle.vocabulary.specs.Least.{least, least_same}
-use Rattle.vocabulary.specs.Total.{total, total_same}
+use Rattle.vocabulary.proofs.First.{first_same}
+use Rattle.vocabulary.specs.Least.{least}
+use Rattle.vocabulary.proofs.Least.{least_same}
+use Rattle.vocabulary.specs.Total.{total}
+use Rattle.vocabulary.proofs.Total.{total_same}
 use Rattle.vocabulary.specs.Table.{table, join, gather}
-use Rattle.vocabulary.specs.Lists.{join_same}
+use Rattle.vocabulary.proofs.Lists.{join_same}
 use Rattle.graph.specs.Graph.{Graph, LinksInside, loops}
 use Rattle.graph.specs.Longest.{rounds}
-use Rattle.graph.specs.Listed.{rounds_alike}
+use Rattle.graph.proofs.Listed.{rounds_alike}
 use Rattle.graph.specs.Soonest as soonest
 use Rattle.kinds.specs.Tasks.{Tasks, Patterns, Set, running, from_task, to_task, pair_count}
 use Rattle.kinds.specs.Cycle.{jobs_of, jobs}
@@ -24,7 +26,7 @@ use Rattle.kinds.specs.Links.{link_from, link_to, repeats, inner}
 use Rattle.kinds.specs.Sound.{sound}
 use Rattle.kinds.proofs.SoundFacts.{Sound, sound_facts}
 use Rattle.kinds.proofs.WhatCounts.{Agree, cycle_agree, jobs_of_agree, jobs_agree, sound_agree}
-use Rattle.laws.specs.Order.{task_low}
+use Rattle.laws.proofs.Order.{task_low}
 use Rattle.network.specs.Network.{link_of, pair_links, pattern_links, cycle_links, link_starts, link_ends, network}
 use Rattle.network.specs.NetworkLaws.{jobs_of_network, inside_network}
 use Rattle.network.specs.Times.{own_release, own_due, own_running, release_by, adjusted_release, adjusted_deadline}

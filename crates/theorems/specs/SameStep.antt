@@ -8,8 +8,9 @@ use Prim.Native.Nat.{ℕ, zero, suc, ◌+◌, ◌-◌, ◌*◌, ◌^◌, ◌<◌
 use Rattle.std.proofs.Math.Dec.{eqb, leb, ltb}
 use borrow.Author.Tests.{ltb-false, eqb-false}
 use Rattle.vocabulary.specs.Test.{pick, bit}
-use Rattle.vocabulary.specs.First.{first_same}
-use Rattle.vocabulary.specs.Least.{least, some, some_not}
+use Rattle.vocabulary.proofs.First.{first_same}
+use Rattle.vocabulary.specs.Least.{least, some}
+use Rattle.vocabulary.proofs.Least.{some_not}
 use Rattle.vocabulary.specs.Bits.{has, pack}
 use Rattle.vocabulary.specs.Table.{table}
 use Rattle.kinds.specs.Tasks.{Tasks, Set, offset}

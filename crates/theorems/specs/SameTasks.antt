@@ -5,9 +5,11 @@ use Rattle.std.proofs.Common.{◌∙◌, arith}
 use Prim.Native.Nat.{ℕ, suc, ◌+◌, ◌-◌, ◌*◌, ◌/◌, ◌<◌, ◌≤◌}
 use Rattle.std.proofs.Math.Dec.{leb, ltb}
 use Rattle.vocabulary.specs.Test.{pick}
-use Rattle.vocabulary.specs.Least.{least, least_is, least_same, some, greatest}
-use Rattle.vocabulary.specs.Count.{count, count_same}
-use Rattle.vocabulary.specs.Total.{total_up}
+use Rattle.vocabulary.specs.Least.{least, some, greatest}
+use Rattle.vocabulary.proofs.Least.{least_is, least_same}
+use Rattle.vocabulary.specs.Count.{count}
+use Rattle.vocabulary.proofs.Count.{count_same}
+use Rattle.vocabulary.proofs.Total.{total_up}
 use Rattle.kinds.specs.Tasks.{Set, period, running, offset, deadline, from_task, to_task, pair_count, pairs_in, pairs_before}
 use Rattle.kinds.specs.Tasks.{first_in, second_in, pair_first, pair_second}
 use Rattle.kinds.specs.Cycle.{jobs_of, jobs_before}

@@ -7,9 +7,11 @@ use Prim.Native.Nat.{ℕ, ◌+◌, ◌-◌, ◌*◌, ◌%◌, ◌<◌, ◌≤◌
 use Rattle.std.proofs.Math.Dec.{eqb, leb}
 use Rattle.std.proofs.Math.ListN.{get_or-eq_default}
 use borrow.Author.Tests.{ltb-false, eqb-false, not-false}
-use Rattle.vocabulary.specs.Test.{lt_or_le}
-use Rattle.vocabulary.specs.First.{first_of, first_same}
-use Rattle.vocabulary.specs.Least.{least, some, some_at, some_not, some_same, least_same}
+use Rattle.vocabulary.proofs.Test.{lt_or_le}
+use Rattle.vocabulary.specs.First.{first_of}
+use Rattle.vocabulary.proofs.First.{first_same}
+use Rattle.vocabulary.specs.Least.{least, some}
+use Rattle.vocabulary.proofs.Least.{some_at, some_not, some_same, least_same}
 use Rattle.kinds.specs.Tasks.{Tasks, Patterns, Set, period, offset, deadline, from_task, to_task, pair_count}
 use Rattle.kinds.specs.Cycle.{cycle, jobs_of}
 use Rattle.kinds.specs.Jobs.{release}

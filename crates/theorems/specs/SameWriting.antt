@@ -7,11 +7,12 @@ use mathlib.Core.List.{List, [], ◌∷◌, ◌++◌}
 use Prim.Native.Nat.{ℕ, ◌+◌, ◌*◌, ◌<◌}
 use native.Mathlib.Omega.{arith}
 use Rattle.std.proofs.Math.Dec.{ltb}
-use Rattle.vocabulary.specs.First.{first_of, first_same}
+use Rattle.vocabulary.specs.First.{first_of}
+use Rattle.vocabulary.proofs.First.{first_same}
 use Rattle.vocabulary.specs.Least.{least, some}
 use Rattle.vocabulary.specs.Table.{join}
-use Rattle.vocabulary.specs.Lists.{join_same}
-use Rattle.vocabulary.specs.Total.{total_up}
+use Rattle.vocabulary.proofs.Lists.{join_same}
+use Rattle.vocabulary.proofs.Total.{total_up}
 use Rattle.kinds.specs.Tasks.{Set, pair_count, pairs_before, pairs_in}
 use Rattle.kinds.proofs.PatternWalk.{before_more}
 use Rattle.kinds.proofs.WhatCounts.{Agree, before_agree, cycle_agree, sound_agree}

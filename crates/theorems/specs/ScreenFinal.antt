@@ -8,10 +8,11 @@ use Rattle.std.proofs.Math.Dec.{leb}
 use Rattle.std.proofs.Math.IntN.{sub_ℕ}
 use Rattle.std.specs.Int.Signed.{lt_z}
 use borrow.Author.Tests.{leb-true, ltb-true, le-leb, lt-ltb}
-use Rattle.vocabulary.specs.Test.{both, lt_or_le, and_true}
-use Rattle.vocabulary.specs.Count.{count, count_same}
+use Rattle.vocabulary.proofs.Test.{both, lt_or_le, and_true}
+use Rattle.vocabulary.specs.Count.{count}
+use Rattle.vocabulary.proofs.Count.{count_same}
 use Rattle.graph.specs.Graph.{Graph}
-use Rattle.graph.specs.Sub.{sub_ge}
+use Rattle.graph.proofs.Sub.{sub_ge}
 use Rattle.kinds.specs.Tasks.{Tasks, Patterns, Set, deadline, from_task, to_task}
 use Rattle.kinds.specs.Cycle.{jobs, jobs_of}
 use Rattle.kinds.specs.Jobs.{release, due, in_window, number_of_job, task_of_job, job_of_job}
@@ -20,7 +21,7 @@ use Rattle.kinds.specs.Plans.{Plan, plan_of, runs, ticks}
 use Rattle.kinds.specs.Valid.{TickOf, Valid}
 use Rattle.kinds.specs.Sound.{sound}
 use Rattle.kinds.proofs.SoundFacts.{Sound, sound_facts}
-use Rattle.laws.specs.Order.{task_low, task_of_number, job_of_number}
+use Rattle.laws.proofs.Order.{task_low, task_of_number, job_of_number}
 use Rattle.screen.specs.declared.Finding.TheVariants as finding
 use Rattle.network.specs.Network.{network}
 use Rattle.network.specs.NetworkLaws.{jobs_of_network, inside_network, inner_low, Made, each_made}

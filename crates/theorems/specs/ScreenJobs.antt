@@ -3,10 +3,11 @@ use Rattle.std.specs.Prelude.{◌≡◌, Bool, true}
 use Rattle.std.proofs.Common.{sym, ap, ◌∙◌}
 use Prim.Native.Nat.{ℕ, zero, suc, ◌+◌, ◌-◌, ◌<◌, ◌≤◌}
 use native.Mathlib.Omega.{arith}
-use Rattle.vocabulary.specs.Count.{count, Tick, count_one, count_room}
+use Rattle.vocabulary.specs.Count.{count, Tick}
+use Rattle.vocabulary.proofs.Count.{count_one, count_room}
 use Rattle.graph.specs.Graph.{Graph, LinksInside, Way, one, more}
 use Rattle.graph.specs.Longest.{rounds}
-use Rattle.graph.specs.Settle.{entry_under}
+use Rattle.graph.proofs.Settle.{entry_under}
 use Rattle.graph.specs.Sub.{flip}
 
 -- job x is released at r x, has to be done before d x, and runs for c x ticks

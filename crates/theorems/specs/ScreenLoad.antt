@@ -2,17 +2,21 @@
 use Rattle.std.specs.Prelude.{◌≡◌, refl, Bool, true, false, ◌||◌, ℕ, zero, suc, ◌+◌, ◌*◌, ◌-◌, ◌/◌, ◌<◌, ◌≤◌, eqb}
 use Rattle.std.proofs.Common.{sym, ap, ap₂, ◌∙◌, ⊎_elim, add-zero, add-one, arith, eqb-true}
 use Rattle.std.proofs.Math.Nat.{div-mul_cancel}
-use Rattle.vocabulary.specs.Test.{bit, decide}
-use Rattle.vocabulary.specs.Count.{count, count_zero, count_more, count_same, count_split}
-use Rattle.vocabulary.specs.Least.{some, some_none, some_more}
-use Rattle.vocabulary.specs.Total.{total, total_mono, total_add, total_zero}
+use Rattle.vocabulary.specs.Test.{bit}
+use Rattle.vocabulary.proofs.Test.{decide}
+use Rattle.vocabulary.specs.Count.{count}
+use Rattle.vocabulary.proofs.Count.{count_zero, count_more, count_same, count_split}
+use Rattle.vocabulary.specs.Least.{some}
+use Rattle.vocabulary.proofs.Least.{some_none, some_more}
+use Rattle.vocabulary.specs.Total.{total}
+use Rattle.vocabulary.proofs.Total.{total_mono, total_add, total_zero}
 use Rattle.kinds.specs.Tasks.{Tasks, Set, period, running, offset, deadline}
 use Rattle.kinds.specs.Cycle.{cycle, jobs_of}
 use Rattle.kinds.specs.Jobs.{release}
 use Rattle.kinds.specs.Plans.{Plan, slot, shows, shown, runs, ticks}
 use Rattle.kinds.specs.Valid.{Exact}
 use Rattle.kinds.proofs.SoundFacts.{Sound}
-use Rattle.laws.specs.Repeat.{shown_again, runs_awake}
+use Rattle.laws.proofs.Repeat.{shown_again, runs_awake}
 use Rattle.network.specs.Causes.{load, room}
 
 -- a slot shows one task at most

@@ -3,12 +3,13 @@ use Rattle.std.specs.Prelude.{◌≡◌, refl, true, ◌⊎◌, ℕ, suc, ◌-�
 use Rattle.std.proofs.Common.{inl, inr, arith, le-leb}
 use Rattle.std.proofs.Math.IntN.{sub_ℕ}
 use Rattle.std.specs.Int.Signed.{le_z}
-use Rattle.vocabulary.specs.Test.{fails, lt_or_le}
+use Rattle.vocabulary.proofs.Test.{fails, lt_or_le}
 use Rattle.graph.specs.Graph.{Graph, Way, loops}
-use Rattle.graph.specs.Reach.{Free, reach_way}
-use Rattle.graph.specs.Settle.{rounds_solve, only}
-use Rattle.graph.specs.Sub.{sub_ge, sub_lt}
-use Rattle.graph.specs.Equation.{soonest_solves, soonest_only}
+use Rattle.graph.specs.Reach.{Free}
+use Rattle.graph.proofs.Reach.{reach_way}
+use Rattle.graph.proofs.Settle.{rounds_solve, only}
+use Rattle.graph.proofs.Sub.{sub_ge, sub_lt}
+use Rattle.graph.proofs.Equation.{soonest_solves, soonest_only}
 use Rattle.kinds.specs.Tasks.{Tasks, Patterns, Set}
 use Rattle.kinds.specs.Cycle.{jobs}
 use Rattle.kinds.specs.Sound.{sound}

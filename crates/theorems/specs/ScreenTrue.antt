@@ -5,17 +5,19 @@ use Rattle.std.proofs.Common.{sym, ap, ap₂, ◌∙◌, subst, arith, le-ltb, l
 use Rattle.std.proofs.Math.Bool.{true}
 use Rattle.std.specs.Int.Signed.{lt_z}
 use Rattle.std.proofs.lemmas.Bool.{not-true, not-false}
-use Rattle.vocabulary.specs.First.{Claim, claim, numbers_of, earlier, Each, ◌also◌, Told, first_told, KeptBy}
-use Rattle.vocabulary.specs.Lowest.{Lowest, least_lowest, lowest_is, least_none, none_least}
+use Rattle.vocabulary.specs.First.{Claim, claim, numbers_of, earlier, Each, ◌also◌, Told, KeptBy}
+use Rattle.vocabulary.proofs.First.{first_told}
+use Rattle.vocabulary.specs.Lowest.{Lowest}
+use Rattle.vocabulary.proofs.Lowest.{least_lowest, lowest_is, least_none, none_least}
 use Rattle.graph.specs.Graph.{Way}
-use Rattle.graph.specs.Reach.{loops_iff}
+use Rattle.graph.proofs.Reach.{loops_iff}
 use Rattle.kinds.specs.Tasks.{Tasks, Patterns, Set}
 use Rattle.kinds.specs.Cycle.{jobs, jobs_of}
 use Rattle.kinds.specs.Jobs.{number_of_job, task_of_job, job_of_job}
 use Rattle.kinds.specs.Sound.{sound}
 use Rattle.kinds.proofs.SoundFacts.{sound_facts}
-use Rattle.laws.specs.Order.{task_low, task_of_number, job_of_number, number_low}
-use Rattle.laws.specs.Back.{job_of_low, number_back}
+use Rattle.laws.proofs.Order.{task_low, task_of_number, job_of_number, number_low}
+use Rattle.laws.proofs.Back.{job_of_low, number_back}
 use Rattle.screen.specs.declared.Finding.{Finding}
 use Rattle.screen.specs.declared.Finding.TheVariants as finding
 use Rattle.network.specs.Network.{network}

@@ -2,7 +2,7 @@
 use Rattle.std.specs.Prelude.{◌≡◌, true, false, List, [], ◌∷◌, ℕ, ◌^◌, ◌<◌, get_or}
 use Rattle.std.proofs.Math.Path.{refl, ap}
 use Rattle.std.proofs.Common.{sym, ◌∙◌, arith}
-use Rattle.vocabulary.specs.Test.{clash}
+use Rattle.vocabulary.proofs.Test.{clash}
 use Rattle.vocabulary.specs.Least.{least, greatest, all}
 use Rattle.vocabulary.specs.First.{first_of}
 use Rattle.vocabulary.specs.Count.{count}
@@ -20,7 +20,7 @@ use Rattle.kinds.specs.Jobs.{release, due, task_of_job, job_of_job}
 use Rattle.kinds.specs.Links.{links}
 use Rattle.kinds.specs.Sound.{attributes_fit, task_fits, opening_fits, sound}
 use Rattle.kinds.specs.Plans.{plan_of, slot, shows, shown, awake, runs, ticks, first_tick, last_tick}
-use Rattle.laws.specs.JobTicks.{gets_ticks}
+use Rattle.laws.proofs.JobTicks.{gets_ticks}
 use Rattle.slots.specs.High.{high}
 use Rattle.judge.specs.declared.Verdict.{Verdict}
 use Rattle.judge.specs.declared.Verdict.TheVariants as verdict

@@ -8,10 +8,12 @@ use Prim.Native.Nat.{ℕ, zero, suc, ◌+◌, ◌*◌, ◌<◌, ◌≤◌}
 use native.Mathlib.Omega.{arith}
 use Rattle.std.proofs.Math.ListN.{length}
 use Rattle.std.proofs.lemmas.List.{length-replicate}
-use Rattle.vocabulary.specs.Test.{both}
-use Rattle.vocabulary.specs.Least.{all, all_at}
+use Rattle.vocabulary.proofs.Test.{both}
+use Rattle.vocabulary.specs.Least.{all}
+use Rattle.vocabulary.proofs.Least.{all_at}
 use Rattle.vocabulary.specs.Table.{join}
-use Rattle.vocabulary.specs.Parts.{PartAt, part_of_join, join_long}
+use Rattle.vocabulary.specs.Parts.{PartAt}
+use Rattle.vocabulary.proofs.Parts.{part_of_join, join_long}
 use Rattle.kinds.specs.declared.Key.{Key}
 use Rattle.kinds.specs.Limits.{holds, pattern_counts, most_links, after, rises}
 use Rattle.kinds.specs.Tasks.{Tasks, Patterns, Set, task_at, pair_count, pairs_before, pair_first, pair_second}

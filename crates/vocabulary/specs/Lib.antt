@@ -7,14 +7,10 @@ pub mod Table
 pub mod Bits
 pub mod Multiple
 pub mod Divisor
-pub mod Remainder
-pub mod StopsAndZeros
 pub mod Lists
 pub mod Lowest
 pub mod Keep
-pub mod Prefix
 pub mod Steps
-pub mod Rows
 pub mod Tally
 pub mod Words
 pub mod Parts

@@ -9,9 +9,10 @@ use lib.ListN.{length, length-append, length-take, take, drop}
 use lib.Seq.{sets, sets-eq}
 use lib.Dec.{eqb, ltb}
 use borrow.Author.Tests.{eq-eqb, ne_eqb, lt-ltb, le-ltb, ltb-false, eqb-true, not-false}
-use Rattle.vocabulary.specs.Test.{missed}
+use Rattle.vocabulary.proofs.Test.{missed}
 use Rattle.vocabulary.specs.First.{first_of}
-use Rattle.vocabulary.specs.Least.{least, some, some_lt, some_ge}
+use Rattle.vocabulary.specs.Least.{least, some}
+use Rattle.vocabulary.proofs.Least.{some_lt, some_ge}
 use Rattle.kinds.specs.declared.Counts.{Counts}
 use Rattle.kinds.specs.Tasks.{Set, view}
 use Rattle.kinds.specs.Build.{lent_set}

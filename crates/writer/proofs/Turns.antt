@@ -6,10 +6,11 @@ use native.Mathlib.Nat.{le_antisymm}
 use native.Mathlib.Omega.{arith}
 use lib.ListN.{length, get_or, set, length-append}
 use lib.Seq.{paste, paste-zero, paste-suc, length-paste, sets-eq, take-length}
-use Rattle.vocabulary.specs.Table.{table, table_end, length_table, join}
-use Rattle.vocabulary.specs.Total.{total_up}
-use Rattle.vocabulary.specs.Lists.{length_join}
-use Rattle.vocabulary.specs.Parts.{join_long}
+use Rattle.vocabulary.specs.Table.{table, join}
+use Rattle.vocabulary.proofs.Table.{table_end, length_table}
+use Rattle.vocabulary.proofs.Total.{total_up}
+use Rattle.vocabulary.proofs.Lists.{length_join}
+use Rattle.vocabulary.proofs.Parts.{join_long}
 use Rattle.kinds.specs.declared.Pattern.{Pattern}
 use Rattle.kinds.specs.RangeLaws.{pairs_more}
 use Rattle.kinds.specs.Tasks.{pattern_in, pattern_in_lem, tasks_of, patterns_of, pairs_in, first_in, second_in}

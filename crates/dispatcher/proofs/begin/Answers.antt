@@ -1,7 +1,6 @@
 use Rattle.dispatcher.proofs.LookLaws.{first_written}
 use Rattle.dispatcher.specs.ForC.{first_bytes}
 use Rattle.dispatcher.proofs.Tags.{not_accepted}
-use borrow.Author.Rules.{rules}
 use Rattle.dispatcher.proofs.begin.Goals as goal
 
 pub returns-in-Accepted : goal.returns-in-Accepted

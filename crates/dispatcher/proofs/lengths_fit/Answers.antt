@@ -1,6 +1,5 @@
 use native.Mathlib.Omega.{arith}
 use Rattle.dispatcher.proofs.LookLaws.{low_product, other_plan, last_length}
-use borrow.Author.Rules.{rules}
 use Rattle.dispatcher.proofs.lengths_fit.Goals as goal
 
 pub overflow_mul-m : goal.overflow_mul-m

@@ -1,9 +1,7 @@
 use mathlib.Core.Path.{◌∙◌}
 use borrow.Author.Tests.{not-true, not-false}
-use Rattle.vocabulary.specs.StopsAndZeros.{stopped, passed}
 use Rattle.dispatcher.proofs.StepFacts.{lengths_right}
 use Rattle.dispatcher.proofs.LookLaws.{wrong_lengths, wrong_bytes, unclear_bytes, clear_bytes}
-use borrow.Author.Rules.{rules}
 use Rattle.std.proofs.Common.{sym}
 use Rattle.dispatcher.proofs.look_bytes.Goals as goal
 

@@ -1,6 +1,5 @@
 use mathlib.Core.Path.{◌∙◌}
 use Rattle.dispatcher.proofs.LookLaws.{no_head, head_timed, head_look}
-use borrow.Author.Rules.{rules}
 use Rattle.dispatcher.proofs.look_head.Goals as goal
 
 pub returns-then-f-eq0 : goal.returns-then-f-eq0

@@ -3,7 +3,6 @@ use mathlib.Core.List.{[]}
 use Rattle.vocabulary.specs.Table.{table}
 use Rattle.dispatcher.specs.declared.State.{State}
 use Rattle.dispatcher.specs.Looks.{eight}
-use borrow.Author.Rules.{rules}
 use Rattle.dispatcher.proofs.refused.Goals as goal
 
 pub returns : goal.returns

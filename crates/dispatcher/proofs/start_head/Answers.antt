@@ -1,5 +1,4 @@
 use Rattle.dispatcher.proofs.LookLaws.{start_by}
-use borrow.Author.Rules.{rules}
 use Rattle.dispatcher.proofs.start_head.Goals as goal
 
 pub returns : goal.returns

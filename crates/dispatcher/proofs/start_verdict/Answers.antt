@@ -1,5 +1,4 @@
 use Rattle.dispatcher.proofs.LookLaws.{right_state, wrong_state, no_tasks_lem}
-use borrow.Author.Rules.{rules}
 use Rattle.dispatcher.proofs.start_verdict.Goals as goal
 
 pub returns-then-state-eq-BYTES : goal.returns-then-state-eq-BYTES

@@ -1,5 +1,4 @@
 use Rattle.dispatcher.proofs.LookLaws.{room_in_c, step_by}
-use borrow.Author.Rules.{rules}
 use Rattle.dispatcher.proofs.step_head.Goals as goal
 
 pub written-requires : goal.written-requires

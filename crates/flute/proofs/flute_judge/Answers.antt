@@ -1,6 +1,5 @@
 use mathlib.Core.Path.{ap, ◌∙◌}
 use Rattle.judge.specs.Answers.{number_of}
-use borrow.Author.Rules.{rules}
 use Rattle.flute.proofs.flute_judge.Goals as goal
 
 pub returns : goal.returns

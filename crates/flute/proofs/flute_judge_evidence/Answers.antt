@@ -1,6 +1,5 @@
 use Rattle.judge.specs.Answers.{evidence_of}
 use Rattle.flute.specs.Calls.{narrowed}
-use borrow.Author.Rules.{rules}
 use Rattle.flute.proofs.flute_judge_evidence.Goals as goal
 
 pub returns : goal.returns

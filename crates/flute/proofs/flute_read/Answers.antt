@@ -1,5 +1,4 @@
 use Rattle.flute.specs.Calls.{read_number_lem}
-use borrow.Author.Rules.{rules}
 use Rattle.flute.proofs.flute_read.Goals as goal
 
 pub returns : goal.returns

@@ -1,5 +1,4 @@
 use Rattle.flute.specs.Calls.{read_evidence_lem}
-use borrow.Author.Rules.{rules}
 use Rattle.flute.proofs.flute_read_evidence.Goals as goal
 
 pub returns : goal.returns

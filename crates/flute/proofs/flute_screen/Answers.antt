@@ -1,6 +1,5 @@
 use mathlib.Core.Path.{ap, ◌∙◌}
 use Rattle.screen.specs.Answers.{finding_number}
-use borrow.Author.Rules.{rules}
 use Rattle.flute.proofs.flute_screen.Goals as goal
 
 pub returns : goal.returns

@@ -1,6 +1,5 @@
 use Rattle.screen.specs.Answers.{finding_evidence}
 use Rattle.flute.specs.Calls.{narrowed}
-use borrow.Author.Rules.{rules}
 use Rattle.flute.proofs.flute_screen_evidence.Goals as goal
 
 pub returns : goal.returns

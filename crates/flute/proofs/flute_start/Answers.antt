@@ -1,5 +1,4 @@
 use Rattle.flute.specs.Calls.{started}
-use borrow.Author.Rules.{rules}
 use Rattle.flute.proofs.flute_start.Goals as goal
 
 pub returns : goal.returns

@@ -1,7 +1,6 @@
 use Rattle.judge.specs.Answers.{evidence_of}
 use Rattle.dispatcher.specs.ForC.{start_for}
 use Rattle.flute.specs.Calls.{narrowed}
-use borrow.Author.Rules.{rules}
 use Rattle.flute.proofs.flute_start_evidence.Goals as goal
 
 pub returns : goal.returns

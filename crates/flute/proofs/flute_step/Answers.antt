@@ -1,5 +1,4 @@
 use Rattle.flute.specs.Calls.{stepped}
-use borrow.Author.Rules.{rules}
 use Rattle.flute.proofs.flute_step.Goals as goal
 
 pub returns : goal.returns

@@ -1,6 +1,5 @@
 use Rattle.dispatcher.specs.Answers.{evidence_of}
 use Rattle.flute.specs.Calls.{narrowed, looked}
-use borrow.Author.Rules.{rules}
 use Rattle.flute.proofs.flute_step_evidence.Goals as goal
 
 pub returns : goal.returns

@@ -1,5 +1,5 @@
 use mathlib.Core.Path.{refl, sym}
-use Rattle.vocabulary.specs.Prefix.{taken}
+use Rattle.vocabulary.proofs.Prefix.{taken}
 use borrow.Author.Rules.{rules}
 use Rattle.flute_screen.proofs.put_times.Statement.{statement}
 use Rattle.flute_screen.proofs.put_times.Tie as tie

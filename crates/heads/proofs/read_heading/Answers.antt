@@ -1,8 +1,8 @@
-use Rattle.vocabulary.specs.Test.{by_true, by_false}
+use Rattle.vocabulary.proofs.Test.{by_true, by_false}
 use borrow.Author.Tests.{eq-eqb, ne_eqb}
 use Rattle.heads.specs.Tables.{heading_at}
 use Rattle.numbers.specs.Numbers.{and_then}
-use Rattle.vocabulary.specs.Test.{by_true}
+use Rattle.vocabulary.proofs.Test.{by_true}
 use borrow.Author.Tests.{eq-eqb}
 use borrow.Author.Rules.{rules}
 use Rattle.heads.proofs.read_heading.Goals as goal

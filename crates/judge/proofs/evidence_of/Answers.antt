@@ -1,4 +1,3 @@
-use borrow.Author.Rules.{rules}
 use Rattle.judge.proofs.evidence_of.Goals as goal
 
 pub returns-in-BadSlot : goal.returns-in-BadSlot

@@ -1,7 +1,6 @@
 use mathlib.Core.Path.{◌∙◌}
 use Rattle.kinds.specs.SoundByTests.{counts_none, counts_found, lent_found}
 use Rattle.judge.proofs.VerdictChain.{bad_set, lent_verdict}
-use borrow.Author.Rules.{rules}
 use Rattle.judge.proofs.judge.Goals as goal
 
 pub returns-then-f-eq0 : goal.returns-then-f-eq0

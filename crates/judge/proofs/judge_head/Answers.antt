@@ -1,7 +1,6 @@
 use mathlib.Core.Path.{◌∙◌}
 use Rattle.reader.proofs.WholeLaws.{whole_found}
 use Rattle.judge.proofs.HeadVerdict.{no_head, head_judged}
-use borrow.Author.Rules.{rules}
 use Rattle.judge.proofs.judge_head.Goals as goal
 
 pub returns-then-f-eq0 : goal.returns-then-f-eq0

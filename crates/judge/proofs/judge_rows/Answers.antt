@@ -2,7 +2,6 @@ use native.Mathlib.Omega.{arith}
 use mathlib.Core.Path.{refl}
 use Rattle.judge.proofs.NeedLaws.{countable}
 use Rattle.judge.proofs.VerdictChain.{worded, swept_bad, swept_good, counted}
-use borrow.Author.Rules.{rules}
 use Rattle.judge.proofs.judge_rows.Goals as goal
 
 pub put_first_jobs-requires : goal.put_first_jobs-requires

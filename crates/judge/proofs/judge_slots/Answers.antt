@@ -1,7 +1,6 @@
 use native.Mathlib.Omega.{arith}
 use mathlib.Core.Path.{refl, sym}
 use Rattle.judge.proofs.VerdictChain.{fresh_rows}
-use borrow.Author.Rules.{rules}
 use Rattle.judge.proofs.judge_slots.Goals as goal
 
 pub slice_bounds-judge_rows-end : goal.slice_bounds-judge_rows-end

@@ -2,7 +2,6 @@ use native.Mathlib.Omega.{arith}
 use mathlib.Core.Path.{◌∙◌}
 use mathlib.Core.List.{[]}
 use Rattle.judge.proofs.VerdictChain.{few_places, other_length, plan_needs, judged, high_slot_lem, low_slots, fit_slots}
-use borrow.Author.Rules.{rules}
 use Rattle.judge.proofs.judge_tables.Goals as goal
 
 pub overflow_mul-f : goal.overflow_mul-f

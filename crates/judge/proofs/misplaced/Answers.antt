@@ -1,8 +1,7 @@
 use native.Mathlib.Omega.{arith}
 use native.Mathlib.Nat.{div-le_self, mod-lt}
-use Rattle.vocabulary.specs.Least.{some_lt}
+use Rattle.vocabulary.proofs.Least.{some_lt}
 use Rattle.judge.proofs.VerdictChain.{mated_low, least_low, least_found, misplaced_twice, misplaced_outside}
-use borrow.Author.Rules.{rules}
 use Rattle.judge.proofs.misplaced.Goals as goal
 
 pub first_twice-c-requires : goal.first_twice-c-requires

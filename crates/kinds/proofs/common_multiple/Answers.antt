@@ -1,7 +1,7 @@
 use mathlib.Core.Path.{◌∙◌}
 use native.Mathlib.Omega.{arith}
-use Rattle.vocabulary.specs.Test.{and_false}
-use Rattle.vocabulary.specs.Multiple.{lcm_comm}
+use Rattle.vocabulary.proofs.Test.{and_false}
+use Rattle.vocabulary.proofs.Multiple.{lcm_comm}
 use Rattle.kinds.specs.Limits.{holds, periods}
 use Rattle.kinds.specs.Cycle.{multiple_of}
 use Rattle.kinds.specs.RangeLaws.{holds_at}

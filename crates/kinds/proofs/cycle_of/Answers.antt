@@ -1,6 +1,6 @@
 use mathlib.Core.Path.{◌∙◌, subst}
 use Prim.Native.Nat.{ℕ, ◌<◌}
-use Rattle.vocabulary.specs.Least.{all_at}
+use Rattle.vocabulary.proofs.Least.{all_at}
 use Rattle.kinds.specs.RangeLaws.{holds_at, ticks_some, cycle_many, cycle_none, cycle_over, cycle_some, jobs_is}
 use Rattle.kinds.proofs.cycle_of.Goals as goal
 

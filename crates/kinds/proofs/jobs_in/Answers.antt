@@ -3,7 +3,8 @@ use Prim.Native.Nat.{◌*◌}
 use native.Mathlib.Nat.{div-le_self, le_antisymm}
 use native.Mathlib.Omega.{arith}
 use lib.ListN.{get_or}
-use Rattle.vocabulary.specs.Total.{total as sum, total_none, total_more}
+use Rattle.vocabulary.specs.Total.{total as sum}
+use Rattle.vocabulary.proofs.Total.{total_none, total_more}
 use borrow.Author.Rules.{rules}
 use Rattle.kinds.proofs.jobs_in.Goals as goal
 

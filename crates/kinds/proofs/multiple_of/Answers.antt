@@ -4,8 +4,8 @@ use native.Mathlib.Nat.{dvd_of_mod-eq-zero, mul-le-mul, lt_of_le_of_lt}
 use native.Mathlib.Omega.{arith}
 use lib.Dec.{lit<}
 use lib.Ieee.{size}
-use Rattle.vocabulary.specs.Multiple.{lcm_le, lcm_whole}
-use Rattle.vocabulary.specs.Divisor.{euclid_from, euclid_on, euclid_room, euclid_done, euclid_less, euclid_few}
+use Rattle.vocabulary.proofs.Multiple.{lcm_le, lcm_whole}
+use Rattle.vocabulary.proofs.Divisor.{euclid_from, euclid_on, euclid_room, euclid_done, euclid_less, euclid_few}
 use Rattle.kinds.proofs.multiple_of.Goals as goal
 
 -- so that there are no more than 26.

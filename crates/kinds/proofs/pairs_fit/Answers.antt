@@ -1,6 +1,6 @@
 use mathlib.Core.Path.{sym, ◌∙◌, refl}
 use native.Mathlib.Omega.{arith}
-use Rattle.vocabulary.specs.Least.{pass_from, pass_on, pass_end, all_fails}
+use Rattle.vocabulary.proofs.Least.{pass_from, pass_on, pass_end, all_fails}
 use Rattle.kinds.specs.Sound.{pair_key}
 use Rattle.kinds.specs.RangeLaws.{pair_key_more, pair_fits_lem}
 use Rattle.kinds.proofs.pairs_fit.Goals as goal

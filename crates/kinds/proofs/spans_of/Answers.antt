@@ -1,5 +1,5 @@
 use native.Mathlib.Omega.{arith}
-use Rattle.vocabulary.specs.Test.{both}
+use Rattle.vocabulary.proofs.Test.{both}
 use Rattle.kinds.specs.Limits.{holds, periods}
 use Rattle.kinds.specs.RangeLaws.{holds_at, multiple_some, shares_low, reach_low, spans_none, spans_some}
 use Rattle.kinds.proofs.spans_of.Goals as goal

@@ -1,5 +1,5 @@
 use mathlib.Core.Path.{sym, ap, ◌∙◌}
-use Rattle.vocabulary.specs.Least.{pass_from, pass_on, pass_end, all_fails}
+use Rattle.vocabulary.proofs.Least.{pass_from, pass_on, pass_end, all_fails}
 use native.Mathlib.Nat.{lt_of_lt_of_le}
 use Rattle.kinds.specs.Tasks.{task_in_lem}
 use Rattle.kinds.specs.Sound.{attributes_fit, task_fits}

@@ -2,8 +2,9 @@ use mathlib.Core.Path.{sym, ◌∙◌, ap, subst}
 use Prim.Native.Nat.{ℕ, ◌<◌}
 use native.Mathlib.Nat.{le_antisymm}
 use native.Mathlib.Omega.{arith}
-use Rattle.vocabulary.specs.Least.{pass_from, pass_on, pass_end}
-use Rattle.vocabulary.specs.Multiple.{lcm_of, lcm_of_none}
+use Rattle.vocabulary.proofs.Least.{pass_from, pass_on, pass_end}
+use Rattle.vocabulary.specs.Multiple.{lcm_of}
+use Rattle.vocabulary.proofs.Multiple.{lcm_of_none}
 use Rattle.kinds.specs.Tasks.{tasks_of}
 use Rattle.kinds.specs.RangeLaws.{ticks_broken, ticks_long, ticks_end, ticks_more, ticks_stop}
 use borrow.Author.Rules.{rules}

@@ -1,5 +1,5 @@
-use Rattle.graph.specs.SearchRows.{begun, begin_room}
-use Rattle.graph.specs.SearchRows.{begun}
+use Rattle.graph.proofs.SearchRows.{begun, begin_room}
+use Rattle.graph.proofs.SearchRows.{begun}
 use borrow.Author.Rules.{rules}
 use Rattle.loops.proofs.begin_search.Goals as goal
 

@@ -1,4 +1,4 @@
-use Rattle.graph.specs.SearchRows.{probe_asked, probed_back}
+use Rattle.graph.proofs.SearchRows.{probe_asked, probed_back}
 use borrow.Author.Rules.{rules}
 use Rattle.loops.proofs.loops_at.Goals as goal
 

@@ -1,4 +1,6 @@
-use Rattle.graph.specs.SearchRows.{Searching, search_asks, search_found, search_on, search_end}
+use Rattle.graph.specs.SearchRows.{Searching}
+use Rattle.graph.proofs.SearchRows.{search_found, search_on}
+use Rattle.graph.proofs.SearchRows.{search_asks, search_end}
 use native.Mathlib.Omega.{arith}
 use mathlib.Core.Path.{◌∙◌}
 use Prim.Native.Nat.{◌-◌}

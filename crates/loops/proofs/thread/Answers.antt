@@ -1,4 +1,5 @@
-use Rattle.graph.specs.SearchRows.{ThreadMade, made_from, thread_place, thread_low, made_on, made_end}
+use Rattle.graph.specs.SearchRows.{ThreadMade}
+use Rattle.graph.proofs.SearchRows.{made_from, thread_place, thread_low, made_on, made_end}
 use native.Mathlib.Omega.{arith}
 use Prim.Native.Nat.{◌-◌}
 use lib.ListN.{length}

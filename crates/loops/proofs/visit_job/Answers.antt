@@ -1,5 +1,7 @@
-use Rattle.graph.specs.SearchRows.{visit_place, visit_found, visit_below, visit_seen, visit_room, visit_new, visit_low}
-use Rattle.graph.specs.SearchRows.{visit_place, visit_found, visit_below, visit_seen, visit_room, visit_new}
+use Rattle.graph.proofs.SearchRows.{visit_seen, visit_room, visit_new}
+use Rattle.graph.proofs.SearchRows.{visit_place, visit_found, visit_below, visit_low}
+use Rattle.graph.proofs.SearchRows.{visit_seen, visit_room, visit_new}
+use Rattle.graph.proofs.SearchRows.{visit_place, visit_found, visit_below}
 use mathlib.Core.Path.{sym, ◌∙◌}
 use native.Mathlib.Omega.{arith}
 use borrow.Author.Rules.{rules}

@@ -1,4 +1,4 @@
-use Rattle.vocabulary.specs.Test.{by_true, by_false}
+use Rattle.vocabulary.proofs.Test.{by_true, by_false}
 use borrow.Author.Tests.{lt-ltb, le-ltb}
 use Rattle.network.proofs.first_of.Goals as goal
 

@@ -1,5 +1,4 @@
 use Rattle.place.proofs.PlaceLaws.{first_read, first_refused}
-use borrow.Author.Rules.{rules}
 use Rattle.place.proofs.first_slot_at.Goals as goal
 
 pub returns-in-At : goal.returns-in-At

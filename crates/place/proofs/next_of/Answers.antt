@@ -1,5 +1,4 @@
 use Rattle.place.proofs.PlaceLaws.{next_behind, next_ends, next_malformed}
-use borrow.Author.Rules.{rules}
 use Rattle.place.proofs.next_of.Goals as goal
 
 pub returns-in-Value : goal.returns-in-Value

@@ -1,6 +1,5 @@
 use native.Mathlib.Omega.{arith}
 use Rattle.place.proofs.PlaceLaws.{rest_none, rest_all}
-use borrow.Author.Rules.{rules}
 use Rattle.place.proofs.rest_at.Goals as goal
 
 pub returns-then-file-at : goal.returns-then-file-at

@@ -1,7 +1,8 @@
 use Prim.Native.Nat.{◌-◌}
 use native.Mathlib.Omega.{arith}
 use lib.ListN.{length}
-use Rattle.vocabulary.specs.Least.{Seeking, seek, on, hit, miss}
+use Rattle.vocabulary.specs.Least.{Seeking}
+use Rattle.vocabulary.proofs.Least.{seek, on, hit, miss}
 use Rattle.slots.specs.High.{high}
 use Rattle.slots.proofs.HighLaws.{high_yes, high_no}
 use borrow.Author.Rules.{rules}

@@ -1,6 +1,5 @@
 use Rattle.dispatcher.proofs.LookLaws.{shown_by_lem, refused_by_lem}
 use Rattle.dispatcher.proofs.Tags.{not_shown}
-use borrow.Author.Rules.{rules}
 use Rattle.dispatcher.proofs.Look.shown.Goals as goal
 
 pub show_row-requires : goal.show_row-requires

@@ -1,6 +1,5 @@
 use Rattle.dispatcher.proofs.LookLaws.{written_by_lem, unwritten_by}
 use Rattle.dispatcher.proofs.Tags.{not_shown}
-use borrow.Author.Rules.{rules}
 use Rattle.dispatcher.proofs.Look.written.Goals as goal
 
 pub show_row-requires : goal.show_row-requires

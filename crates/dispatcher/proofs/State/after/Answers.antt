@@ -1,6 +1,5 @@
-use borrow.Author.Rules.{rules}
 use borrow.Author.Tests.{lt-ltb, le-ltb}
-use Rattle.vocabulary.specs.Test.{and_true, and_false}
+use Rattle.vocabulary.proofs.Test.{and_true, and_false}
 use Rattle.dispatcher.specs.Steps.{after_of}
 use Rattle.dispatcher.proofs.State.after.Goals as goal
 

@@ -1,5 +1,4 @@
 use mathlib.Core.Path.{◌∙◌}
-use borrow.Author.Rules.{rules}
 use Rattle.dispatcher.proofs.ByteLoops.{bool_byte_lem, tick_byte, done_byte, ran_byte}
 use Rattle.dispatcher.proofs.State.byte_at.Goals as goal
 

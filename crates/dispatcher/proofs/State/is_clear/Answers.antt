@@ -1,4 +1,3 @@
-use borrow.Author.Rules.{rules}
 use Rattle.dispatcher.proofs.ByteLoops.{clear_is}
 use Rattle.dispatcher.proofs.State.is_clear.Goals as goal
 

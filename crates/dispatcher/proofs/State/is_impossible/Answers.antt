@@ -1,6 +1,5 @@
 use borrow.Author.Tests.{le-leb, lt-leb}
 use Rattle.dispatcher.specs.Refusals.{impossible}
-use borrow.Author.Rules.{rules}
 use Rattle.dispatcher.proofs.State.is_impossible.Goals as goal
 
 pub returns-then-h-self : goal.returns-then-h-self

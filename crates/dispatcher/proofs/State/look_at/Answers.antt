@@ -1,10 +1,8 @@
 use mathlib.Core.Path.{◌∙◌}
-use Rattle.vocabulary.specs.StopsAndZeros.{stopped, passed}
 use Rattle.kinds.specs.Tasks.{view}
 use Rattle.kinds.specs.SoundByTests.{counts_none, counts_found}
 use Rattle.dispatcher.proofs.StepFacts.{lengths_right}
 use Rattle.dispatcher.proofs.LookLaws.{set_10, set_11, set_look, timed_of}
-use borrow.Author.Rules.{rules}
 use Rattle.std.proofs.Common.{sym}
 use Rattle.dispatcher.proofs.State.look_at.Goals as goal
 

@@ -1,11 +1,9 @@
 use mathlib.Core.Path.{sym, ◌∙◌}
 use mathlib.Core.Bool.{true}
-use Prim.Native.Nat.{◌*◌}
 use native.Mathlib.Omega.{arith}
 use Rattle.dispatcher.specs.Refusals.{overreports}
 use Rattle.dispatcher.specs.Looks.{tick_for}
-use Rattle.dispatcher.proofs.LookLaws.{InPlan, in_plan, look_30, look_31, lent_long, lent_low, lent_slot, lent_shown}
-use borrow.Author.Rules.{rules}
+use Rattle.dispatcher.proofs.LookLaws.{in_plan, look_30, look_31, lent_long, lent_low, lent_slot, lent_shown}
 use Rattle.dispatcher.proofs.State.look_on.Goals as goal
 
 pub returns-then-is_impossible : goal.returns-then-is_impossible

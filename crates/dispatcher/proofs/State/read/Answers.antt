@@ -1,4 +1,3 @@
-use borrow.Author.Rules.{rules}
 use Rattle.dispatcher.specs.Bytes.{state_of}
 use Rattle.dispatcher.proofs.State.read.Goals as goal
 

@@ -4,7 +4,6 @@ use Rattle.dispatcher.specs.declared.State.{State}
 use Rattle.dispatcher.specs.Refusals.{on_verdict}
 use Rattle.dispatcher.proofs.Tags.{not_accepted}
 use Rattle.dispatcher.proofs.LookLaws.{started_by}
-use borrow.Author.Rules.{rules}
 use Rattle.dispatcher.proofs.State.start.Goals as goal
 
 pub returns-in-Accepted : goal.returns-in-Accepted

@@ -1,5 +1,4 @@
 use Rattle.dispatcher.proofs.LookLaws.{room_for, outcome_by}
-use borrow.Author.Rules.{rules}
 use Rattle.dispatcher.proofs.State.step.Goals as goal
 
 pub shown-requires : goal.shown-requires

@@ -1,11 +1,9 @@
 use mathlib.Core.Path.{refl, ◌∙◌}
-use mathlib.Core.List.{[]}
 use native.Mathlib.Omega.{arith}
 use lib.ListN.{get_or}
 use Rattle.dispatcher.specs.Looks.{tick_on}
 use Rattle.kinds.specs.Tasks.{tasks_of}
 use Rattle.dispatcher.proofs.RowLaws.{row_first, row_refused, row_low, slots_low, all_low, shown_low, row_shown}
-use borrow.Author.Rules.{rules}
 use Rattle.dispatcher.proofs.State.step_row.Goals as goal
 
 pub returns-then-q-row : goal.returns-then-q-row

@@ -1,8 +1,4 @@
-use Prim.Native.Nat.{◌-◌}
-use lib.ListN.{get_or}
-use borrow.Author.Rules.{rules}
-use Rattle.vocabulary.specs.Table.{Filling, fill_from, fill_on, filled_table, is}
-use Rattle.dispatcher.specs.Bytes.{bytes_of}
+use Rattle.vocabulary.proofs.Table.{fill_from, fill_on, filled_table}
 use Rattle.dispatcher.proofs.ByteLoops.{written, not_written}
 use Rattle.dispatcher.proofs.State.write.Goals as goal
 

@@ -1,9 +1,7 @@
 use Prim.Native.Nat.{◌-◌}
 use lib.ListN.{get_or}
-use borrow.Author.Rules.{rules}
-use Rattle.vocabulary.specs.Table.{Filling, fill_from, fill_on, filled_table, is}
+use Rattle.vocabulary.specs.Table.{Filling, is}
 use Rattle.dispatcher.specs.Bytes.{bytes_of}
-use Rattle.dispatcher.proofs.ByteLoops.{written, not_written}
 use Rattle.dispatcher.proofs.State.write.Given as goal
 
 abbrev pub invariant-loop-k : goal.invariant-loop-k

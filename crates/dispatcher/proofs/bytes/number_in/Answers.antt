@@ -1,7 +1,6 @@
 use mathlib.Core.Path.{◌∙◌}
 use native.Mathlib.Omega.{arith}
-use Rattle.dispatcher.proofs.ByteLoops.{Reading, read_from, read_room, read_on, read_end}
-use borrow.Author.Rules.{rules}
+use Rattle.dispatcher.proofs.ByteLoops.{read_from, read_room, read_on, read_end}
 use Rattle.dispatcher.proofs.bytes.number_in.Goals as goal
 
 pub loop-k-init : goal.loop-k-init

@@ -1,4 +1,4 @@
-use Rattle.vocabulary.specs.Words.{over_word}
+use Rattle.vocabulary.proofs.Words.{over_word}
 use Rattle.dispatcher.proofs.RowLaws.{over_none}
 use borrow.Author.Rules.{rules}
 use Rattle.dispatcher.proofs.leaves.has_bit_from.Goals as goal

@@ -1,5 +1,6 @@
 use mathlib.Core.Path.{refl, sym}
-use Rattle.vocabulary.specs.Bits.{has, has_out}
+use Rattle.vocabulary.specs.Bits.{has}
+use Rattle.vocabulary.proofs.Bits.{has_out}
 use borrow.Author.Rules.{rules}
 use Rattle.dispatcher.proofs.leaves.is_marked.Goals as goal
 

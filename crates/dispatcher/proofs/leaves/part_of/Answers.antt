@@ -1,7 +1,6 @@
 use mathlib.Core.Path.{sym}
 use native.Mathlib.Omega.{arith}
 use Rattle.dispatcher.proofs.LookLaws.{part_none, part_all}
-use borrow.Author.Rules.{rules}
 use Rattle.dispatcher.proofs.leaves.part_of.Goals as goal
 
 pub returns-then-bytes-at : goal.returns-then-bytes-at

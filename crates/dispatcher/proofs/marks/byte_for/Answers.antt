@@ -1,6 +1,5 @@
 use borrow.Author.Tests.{eq-eqb, ne_eqb}
 use Rattle.dispatcher.specs.Steps.{byte_of, asleep}
-use borrow.Author.Rules.{rules}
 use Rattle.dispatcher.proofs.marks.byte_for.Goals as goal
 
 pub returns-then-v-eq0 : goal.returns-then-v-eq0

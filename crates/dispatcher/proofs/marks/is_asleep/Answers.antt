@@ -1,4 +1,3 @@
-use borrow.Author.Rules.{rules}
 use Rattle.dispatcher.proofs.marks.is_asleep.Goals as goal
 
 pub returns-then-s : goal.returns-then-s

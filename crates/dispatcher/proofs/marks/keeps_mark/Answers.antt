@@ -1,9 +1,7 @@
 use native.Mathlib.Omega.{arith}
-use borrow.Author.Tests.{not-true, not-false}
-use Rattle.vocabulary.specs.Test.{and_true, and_false}
+use Rattle.vocabulary.proofs.Test.{and_true, and_false}
 use Rattle.dispatcher.specs.Steps.{releases}
 use Rattle.dispatcher.specs.Looks.{keeps}
-use borrow.Author.Rules.{rules}
 use Rattle.dispatcher.proofs.marks.keeps_mark.Goals as goal
 
 pub returns-then-not-is_marked : goal.returns-then-not-is_marked

@@ -1,9 +1,5 @@
 use mathlib.Core.Path.{sym, ◌∙◌}
-use Prim.Native.Nat.{◌-◌}
-use borrow.Author.Rules.{rules}
-use Rattle.vocabulary.specs.Bits.{Packing, pack_from, pack_hit, pack_miss, pack_room, packed}
-use Rattle.dispatcher.specs.Looks.{keeps}
-use Rattle.kinds.specs.Tasks.{tasks_of}
+use Rattle.vocabulary.proofs.Bits.{pack_from, pack_hit, pack_miss, pack_room, packed}
 use Rattle.dispatcher.proofs.marks.kept_marks.Goals.{then-keeps_mark, else-keeps_mark}
 use Rattle.dispatcher.proofs.marks.kept_marks.Goals as goal
 
@@ -19,8 +15,8 @@ loop-i-preserved c =
     let l = c.loop-i-test.true in
     let e = sym c.keeps_mark.ensures in
     elim c.if-keeps_mark.branch [
-      then-keeps_mark w ↦ pack_hit _ _ _ _ _ s l c.requires.0.few (e ∙ w.if-keeps_mark.true) w.r-is
-    | else-keeps_mark w ↦ pack_miss _ _ _ _ _ s l (e ∙ w.if-keeps_mark.false) w.r-is
+      | then-keeps_mark w ↦ pack_hit _ _ _ _ _ s l c.requires.0.few (e ∙ w.if-keeps_mark.true) w.r-is
+      | else-keeps_mark w ↦ pack_miss _ _ _ _ _ s l (e ∙ w.if-keeps_mark.false) w.r-is
     ]
 
 pub returns : goal.returns

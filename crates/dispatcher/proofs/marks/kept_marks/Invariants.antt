@@ -1,8 +1,5 @@
-use mathlib.Core.Logic.{⊎_elim}
-use mathlib.Core.Path.{sym, ◌∙◌}
 use Prim.Native.Nat.{◌-◌}
-use borrow.Author.Rules.{rules}
-use Rattle.vocabulary.specs.Bits.{Packing, pack_from, pack_hit, pack_miss, pack_room, packed}
+use Rattle.vocabulary.specs.Bits.{Packing}
 use Rattle.dispatcher.specs.Looks.{keeps}
 use Rattle.kinds.specs.Tasks.{tasks_of}
 use Rattle.dispatcher.proofs.marks.kept_marks.Given as goal

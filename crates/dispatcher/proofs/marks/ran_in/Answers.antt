@@ -1,9 +1,6 @@
-use Prim.Native.Nat.{◌-◌}
 use native.Mathlib.Omega.{arith}
-use lib.ListN.{get_or}
-use Rattle.vocabulary.specs.Words.{Marking, mark_from, mark_on, marked}
+use Rattle.vocabulary.proofs.Words.{mark_from, mark_on, marked}
 use Rattle.dispatcher.specs.Steps.{stands_at}
-use borrow.Author.Rules.{rules}
 use Rattle.dispatcher.proofs.marks.ran_in.Goals as goal
 
 pub loop-q-init : goal.loop-q-init

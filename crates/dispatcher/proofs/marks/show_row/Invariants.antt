@@ -1,9 +1,6 @@
-use mathlib.Core.Path.{refl}
 use Prim.Native.Nat.{◌-◌}
-use native.Mathlib.Omega.{arith}
 use lib.ListN.{get_or, length}
-use Rattle.vocabulary.specs.Table.{Filling, fill_from, fill_on, filled_table, is}
-use borrow.Author.Rules.{rules}
+use Rattle.vocabulary.specs.Table.{Filling, is}
 use Rattle.dispatcher.proofs.marks.show_row.Given as goal
 
 abbrev pub invariant-loop-q : goal.invariant-loop-q

@@ -1,11 +1,5 @@
 use mathlib.Core.Path.{refl, ◌∙◌}
-use mathlib.Core.List.{[]}
-use Prim.Native.Nat.{◌-◌}
-use lib.ListN.{get_or}
-use Rattle.vocabulary.specs.Table.{Filling, fill_from, fill_on, filled_table, is}
-use Rattle.dispatcher.specs.Steps.{byte_of}
-use Rattle.kinds.specs.Tasks.{tasks_of}
-use borrow.Author.Rules.{rules}
+use Rattle.vocabulary.proofs.Table.{fill_from, fill_on, filled_table}
 use Rattle.dispatcher.proofs.marks.shown_row.Goals as goal
 
 pub loop-q-init : goal.loop-q-init

@@ -1,11 +1,8 @@
-use mathlib.Core.Path.{refl, ◌∙◌}
-use mathlib.Core.List.{[]}
 use Prim.Native.Nat.{◌-◌}
 use lib.ListN.{get_or}
-use Rattle.vocabulary.specs.Table.{Filling, fill_from, fill_on, filled_table, is}
+use Rattle.vocabulary.specs.Table.{Filling, is}
 use Rattle.dispatcher.specs.Steps.{byte_of}
 use Rattle.kinds.specs.Tasks.{tasks_of}
-use borrow.Author.Rules.{rules}
 use Rattle.dispatcher.proofs.marks.shown_row.Given as goal
 
 abbrev pub invariant-loop-q : goal.invariant-loop-q

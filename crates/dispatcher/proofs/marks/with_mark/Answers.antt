@@ -1,5 +1,5 @@
 use borrow.Author.Rules.{rules}
-use Rattle.vocabulary.specs.Words.{mark_word, mark_fits, no_mark_lem}
+use Rattle.vocabulary.proofs.Words.{mark_word, mark_fits, no_mark_lem}
 use Rattle.dispatcher.proofs.marks.with_mark.Goals as goal
 
 pub returns-then-v-eq0 : goal.returns-then-v-eq0

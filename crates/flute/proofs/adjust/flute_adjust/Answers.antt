@@ -1,5 +1,4 @@
 use Rattle.flute.specs.Calls.{numbered}
-use borrow.Author.Rules.{rules}
 use Rattle.flute.proofs.adjust.flute_adjust.Goals as goal
 
 pub returns : goal.returns

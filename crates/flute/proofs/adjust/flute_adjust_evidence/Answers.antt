@@ -1,6 +1,5 @@
 use Rattle.screen.specs.Answers.{adjusted_evidence}
 use Rattle.flute.specs.Calls.{narrowed}
-use borrow.Author.Rules.{rules}
 use Rattle.flute.proofs.adjust.flute_adjust_evidence.Goals as goal
 
 pub returns : goal.returns

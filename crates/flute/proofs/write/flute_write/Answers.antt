@@ -1,5 +1,4 @@
 use Rattle.flute.specs.Calls.{wrote}
-use borrow.Author.Rules.{rules}
 use Rattle.flute.proofs.write.flute_write.Goals as goal
 
 pub returns : goal.returns

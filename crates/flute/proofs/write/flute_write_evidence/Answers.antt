@@ -1,6 +1,5 @@
 use Rattle.writer.specs.Answers.{evidence_of}
 use Rattle.flute.specs.Calls.{narrowed}
-use borrow.Author.Rules.{rules}
 use Rattle.flute.proofs.write.flute_write_evidence.Goals as goal
 
 pub returns : goal.returns

@@ -1,9 +1,6 @@
-use native.Mathlib.Omega.{arith}
-use mathlib.Core.Path.{refl}
 use Prim.Native.Nat.{◌-◌}
 use Rattle.kinds.specs.Tasks.{tasks_of}
-use Rattle.judge.proofs.FirstJobLaws.{FirstJobsTo, first_from, first_some, first_room, first_on, first_end}
-use borrow.Author.Rules.{rules}
+use Rattle.judge.proofs.FirstJobLaws.{FirstJobsTo}
 use Rattle.judge.proofs.bases.put_first_jobs.Given as goal
 
 abbrev pub invariant-loop-i : goal.invariant-loop-i

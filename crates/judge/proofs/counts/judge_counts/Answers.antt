@@ -1,13 +1,8 @@
 use native.Mathlib.Omega.{arith}
-use Prim.Native.Nat.{◌-◌}
-use Rattle.vocabulary.specs.Least.{Seeking, seek, on, miss}
-use Rattle.kinds.specs.Tasks.{tasks_of, patterns_of}
-use Rattle.judge.specs.Rules.{miscounted}
+use Rattle.vocabulary.proofs.Least.{seek, on, miss}
 use Rattle.judge.proofs.LaneLaws.{ask_times}
-use Rattle.judge.specs.TableNeeds.{Counted}
 use Rattle.judge.proofs.CountLaws.{task_room, task_tells, task_no, wrong_found}
 use Rattle.judge.proofs.VerdictChain.{link_needs, none_wrong}
-use borrow.Author.Rules.{rules}
 use Rattle.judge.proofs.counts.judge_counts.Goals as goal
 
 pub loop-i-init : goal.loop-i-init

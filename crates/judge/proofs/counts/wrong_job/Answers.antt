@@ -1,11 +1,6 @@
-use Prim.Native.Nat.{◌-◌}
-use Rattle.vocabulary.specs.Least.{Seeking, seek, on, hit, miss}
-use Rattle.kinds.specs.Cycle.{jobs_of}
-use Rattle.judge.specs.Rules.{miscounts}
-use Rattle.judge.specs.TableNeeds.{Tells}
+use Rattle.vocabulary.proofs.Least.{seek, on, hit, miss}
 use Rattle.judge.proofs.LaneLaws.{lane_low, lane_high}
 use Rattle.judge.proofs.CountLaws.{miscount_yes, miscount_no}
-use borrow.Author.Rules.{rules}
 use Rattle.judge.proofs.counts.wrong_job.Goals as goal
 
 pub loop-k-init : goal.loop-k-init

@@ -1,11 +1,8 @@
 use Prim.Native.Nat.{◌-◌}
-use Rattle.vocabulary.specs.Least.{Seeking, seek, on, hit, miss}
+use Rattle.vocabulary.specs.Least.{Seeking}
 use Rattle.kinds.specs.Cycle.{jobs_of}
 use Rattle.judge.specs.Rules.{miscounts}
 use Rattle.judge.specs.TableNeeds.{Tells}
-use Rattle.judge.proofs.LaneLaws.{lane_low, lane_high}
-use Rattle.judge.proofs.CountLaws.{miscount_yes, miscount_no}
-use borrow.Author.Rules.{rules}
 use Rattle.judge.proofs.counts.wrong_job.Given as goal
 
 abbrev pub invariant-loop-k : goal.invariant-loop-k

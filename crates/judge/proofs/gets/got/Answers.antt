@@ -1,7 +1,6 @@
 use native.Mathlib.Omega.{arith}
 use native.Mathlib.Nat.{mod-lt}
 use Rattle.judge.proofs.LaneLaws.{ask_some, ask_before, ask_far, ask_times, lane_later}
-use borrow.Author.Rules.{rules}
 use Rattle.judge.proofs.gets.got.Goals as goal
 
 pub ticks_of_job-requires : goal.ticks_of_job-requires

@@ -1,7 +1,6 @@
 use mathlib.Core.List.{[]}
 use native.Mathlib.Omega.{arith}
 use Rattle.judge.proofs.LaneLaws.{lane_some_period, lane_made}
-use borrow.Author.Rules.{rules}
 use Rattle.judge.proofs.gets.lane_of.Goals as goal
 
 pub nonzero_div-result : goal.nonzero_div-result

@@ -1,7 +1,6 @@
 use native.Mathlib.Omega.{arith}
 use mathlib.Core.Path.{refl}
 use Rattle.judge.proofs.LaneLaws.{ask_here, ask_release, ask_times, lane_none, lane_some}
-use borrow.Author.Rules.{rules}
 use Rattle.judge.proofs.gets.ticks_of_job.Goals as goal
 
 pub overflow_add-row : goal.overflow_add-row

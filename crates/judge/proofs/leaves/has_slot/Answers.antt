@@ -1,7 +1,6 @@
 use borrow.Author.Tests.{eq-eqb, ne_eqb}
 use Rattle.vocabulary.specs.Bits.{has}
 use Rattle.judge.specs.RowMarks.{marked}
-use borrow.Author.Rules.{rules}
 use Rattle.judge.proofs.leaves.has_slot.Goals as goal
 
 pub returns-then-v-eq0 : goal.returns-then-v-eq0

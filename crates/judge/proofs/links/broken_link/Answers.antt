@@ -1,13 +1,6 @@
 use native.Mathlib.Omega.{arith}
-use mathlib.Core.Path.{◌≡◌}
-use Prim.Native.Nat.{◌+◌, ◌-◌, ◌*◌}
-use Rattle.vocabulary.specs.Least.{Seeking, seek, on, hit, miss}
-use Rattle.kinds.specs.Tasks.{first_in, second_in}
-use Rattle.kinds.specs.Links.{repeats}
-use Rattle.judge.specs.Rules.{breaks}
-use Rattle.judge.specs.TableNeeds.{PairOf}
+use Rattle.vocabulary.proofs.Least.{seek, on, hit, miss}
 use Rattle.judge.proofs.LinkTableLaws.{pair_is, pair_from, pair_to, pair_jobs, link_yes, link_no, rounds_few, rounds_low, rounds_high}
-use borrow.Author.Rules.{rules}
 use Rattle.judge.proofs.links.broken_link.Goals as goal
 
 pub loop-n-init : goal.loop-n-init

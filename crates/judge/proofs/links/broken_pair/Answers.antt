@@ -1,10 +1,6 @@
 use native.Mathlib.Omega.{arith}
-use Prim.Native.Nat.{◌-◌}
-use Rattle.vocabulary.specs.Least.{Seeking, seek, on, hit, miss}
-use Rattle.judge.specs.Rules.{broken_pair}
-use Rattle.judge.specs.TableNeeds.{PatternOf}
+use Rattle.vocabulary.proofs.Least.{seek, on, hit, miss}
 use Rattle.judge.proofs.LinkTableLaws.{pattern_pair, pairs_room, pair_yes, pair_no}
-use borrow.Author.Rules.{rules}
 use Rattle.judge.proofs.links.broken_pair.Goals as goal
 
 pub loop-q-init : goal.loop-q-init

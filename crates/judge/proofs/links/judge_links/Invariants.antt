@@ -1,13 +1,10 @@
-use native.Mathlib.Omega.{arith}
 use mathlib.Core.Path.{◌≡◌}
 use Prim.Native.Nat.{◌-◌}
-use Rattle.vocabulary.specs.Least.{Seeking, seek, on}
+use Rattle.vocabulary.specs.Least.{Seeking}
 use Rattle.kinds.specs.Tasks.{pairs_before}
 use Rattle.judge.specs.Rules.{broken_pattern}
 use Rattle.judge.specs.TableNeeds.{LinkNeeds}
 use Rattle.kinds.specs.Build.{lent_tasks, lent_patterns}
-use Rattle.judge.proofs.LinkTableLaws.{pattern_few, steps_needs, pattern_of, pairs_room, pattern_pair, pattern_no, start_from, start_on, link_found, links_end}
-use borrow.Author.Rules.{rules}
 use Rattle.judge.proofs.links.judge_links.Given as goal
 
 abbrev pub invariant-loop-k : goal.invariant-loop-k

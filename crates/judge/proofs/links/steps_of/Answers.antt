@@ -1,6 +1,5 @@
 use native.Mathlib.Omega.{arith}
 use Rattle.judge.proofs.LinkTableLaws.{from_period, to_period, whole_is, steps_is}
-use borrow.Author.Rules.{rules}
 use Rattle.judge.proofs.links.steps_of.Goals as goal
 
 pub lane_of-from-requires : goal.lane_of-from-requires

@@ -1,7 +1,6 @@
 use mathlib.Core.Path.{sym, ◌∙◌}
 use borrow.Author.Tests.{le-ltb, lt-ltb, eq-eqb, ne_eqb}
 use Rattle.judge.specs.Rules.{twin}
-use borrow.Author.Rules.{rules}
 use Rattle.judge.proofs.twice.are_twins.Goals as goal
 
 pub returns-then-r-q : goal.returns-then-r-q

@@ -1,8 +1,5 @@
-use Prim.Native.Nat.{◌-◌}
-use Rattle.vocabulary.specs.Least.{Seeking, seek, on, hit, miss, some_lt, some_ge}
-use Rattle.kinds.specs.Plans.{plan}
+use Rattle.vocabulary.proofs.Least.{seek, on, hit, miss, some_lt, some_ge}
 use Rattle.judge.specs.Rules.{mated}
-use borrow.Author.Rules.{rules}
 use Rattle.judge.proofs.twice.first_mated.Goals as goal
 
 pub loop-q-init : goal.loop-q-init

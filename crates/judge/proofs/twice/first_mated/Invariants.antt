@@ -1,8 +1,7 @@
 use Prim.Native.Nat.{◌-◌}
-use Rattle.vocabulary.specs.Least.{Seeking, seek, on, hit, miss, some_lt, some_ge}
+use Rattle.vocabulary.specs.Least.{Seeking}
 use Rattle.kinds.specs.Plans.{plan}
 use Rattle.judge.specs.Rules.{mated}
-use borrow.Author.Rules.{rules}
 use Rattle.judge.proofs.twice.first_mated.Given as goal
 
 abbrev pub invariant-loop-q : goal.invariant-loop-q

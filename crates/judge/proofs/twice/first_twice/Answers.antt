@@ -1,10 +1,6 @@
-use mathlib.Core.Path.{◌≡◌, sym, ◌∙◌}
-use Prim.Native.Nat.{◌-◌, ◌*◌}
-use Rattle.vocabulary.specs.Least.{Seeking, seek, on, hit, miss}
-use Rattle.kinds.specs.Plans.{plan}
-use Rattle.judge.specs.Rules.{clashes}
+use mathlib.Core.Path.{sym, ◌∙◌}
+use Rattle.vocabulary.proofs.Least.{seek, on, hit, miss}
 use Rattle.judge.proofs.RowLaws.{row_next}
-use borrow.Author.Rules.{rules}
 use native.Mathlib.Omega.{arith}
 use Rattle.judge.proofs.twice.first_twice.Goals as goal
 

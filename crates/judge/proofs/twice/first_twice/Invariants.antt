@@ -1,11 +1,8 @@
-use mathlib.Core.Path.{◌≡◌, sym, ◌∙◌}
+use mathlib.Core.Path.{◌≡◌}
 use Prim.Native.Nat.{◌-◌, ◌*◌}
-use Rattle.vocabulary.specs.Least.{Seeking, seek, on, hit, miss}
+use Rattle.vocabulary.specs.Least.{Seeking}
 use Rattle.kinds.specs.Plans.{plan}
 use Rattle.judge.specs.Rules.{clashes}
-use Rattle.judge.proofs.RowLaws.{row_next}
-use borrow.Author.Rules.{rules}
-use native.Mathlib.Omega.{arith}
 use Rattle.judge.proofs.twice.first_twice.Given as goal
 
 abbrev pub invariant-loop-c : goal.invariant-loop-c

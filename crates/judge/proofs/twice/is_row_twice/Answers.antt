@@ -1,8 +1,5 @@
 use mathlib.Core.Path.{sym, ◌∙◌}
-use Prim.Native.Nat.{◌-◌}
-use Rattle.kinds.specs.Plans.{plan}
-use Rattle.judge.proofs.RowLaws.{Rowing, row_from_lem, row_slot, row_room, row_hit, row_on_lem, row_end}
-use borrow.Author.Rules.{rules}
+use Rattle.judge.proofs.RowLaws.{row_from_lem, row_slot, row_room, row_hit, row_on_lem, row_end}
 use native.Mathlib.Omega.{arith}
 use Rattle.judge.proofs.twice.is_row_twice.Goals as goal
 

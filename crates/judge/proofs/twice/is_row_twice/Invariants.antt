@@ -1,9 +1,6 @@
-use mathlib.Core.Path.{sym, ◌∙◌}
 use Prim.Native.Nat.{◌-◌}
 use Rattle.kinds.specs.Plans.{plan}
-use Rattle.judge.proofs.RowLaws.{Rowing, row_from_lem, row_slot, row_room, row_hit, row_on_lem, row_end}
-use borrow.Author.Rules.{rules}
-use native.Mathlib.Omega.{arith}
+use Rattle.judge.proofs.RowLaws.{Rowing}
 use Rattle.judge.proofs.twice.is_row_twice.Given as goal
 
 abbrev pub invariant-loop-q : goal.invariant-loop-q

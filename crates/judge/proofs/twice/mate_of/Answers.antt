@@ -1,9 +1,5 @@
 use mathlib.Core.Path.{sym, ◌∙◌}
-use Prim.Native.Nat.{◌-◌}
-use Rattle.vocabulary.specs.Least.{Seeking, seek, on, hit, miss}
-use Rattle.kinds.specs.Plans.{plan}
-use Rattle.judge.specs.Rules.{twin}
-use borrow.Author.Rules.{rules}
+use Rattle.vocabulary.proofs.Least.{seek, on, hit, miss}
 use Rattle.judge.proofs.twice.mate_of.Goals as goal
 
 pub loop-r-init : goal.loop-r-init

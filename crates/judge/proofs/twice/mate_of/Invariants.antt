@@ -1,9 +1,7 @@
-use mathlib.Core.Path.{sym, ◌∙◌}
 use Prim.Native.Nat.{◌-◌}
-use Rattle.vocabulary.specs.Least.{Seeking, seek, on, hit, miss}
+use Rattle.vocabulary.specs.Least.{Seeking}
 use Rattle.kinds.specs.Plans.{plan}
 use Rattle.judge.specs.Rules.{twin}
-use borrow.Author.Rules.{rules}
 use Rattle.judge.proofs.twice.mate_of.Given as goal
 
 abbrev pub invariant-loop-r : goal.invariant-loop-r

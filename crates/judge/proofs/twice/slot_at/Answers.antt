@@ -2,7 +2,6 @@ use native.Mathlib.Omega.{arith}
 use native.Mathlib.Nat.{mod-eq_of_lt}
 use lib.Arith.{digits_lt}
 use Rattle.kinds.specs.Plans.{slot}
-use borrow.Author.Rules.{rules}
 use Rattle.judge.proofs.twice.slot_at.Goals as goal
 
 pub overflow_mul-result : goal.overflow_mul-result

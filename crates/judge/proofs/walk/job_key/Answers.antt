@@ -3,9 +3,8 @@ use mathlib.Core.Path.{sym}
 use native.Mathlib.Nat.{div-le_self}
 use Prim.Native.Nat.{◌-◌}
 use borrow.Author.Tests.{lt-ltb, le-ltb}
-use Rattle.laws.specs.Window.{time_from}
+use Rattle.laws.proofs.Window.{time_from}
 use Rattle.judge.specs.JobOfSlot.{job_key}
-use borrow.Author.Rules.{rules}
 use Rattle.judge.proofs.walk.job_key.Goals as goal
 
 pub overflow_sub-r : goal.overflow_sub-r

@@ -1,12 +1,7 @@
 use native.Mathlib.Omega.{arith}
-use mathlib.Core.Path.{◌≡◌, refl, sym, ◌∙◌}
-use Prim.Native.Nat.{◌-◌}
-use lib.ListN.{length}
-use Rattle.kinds.specs.Tasks.{tasks_of}
+use mathlib.Core.Path.{refl, sym, ◌∙◌}
 use Rattle.judge.proofs.Visit.{walk_tick, walk_low}
-use Rattle.judge.proofs.SweepLaws.{Sweeping, sweep_from, sweep_few, sweep_twice, sweep_out, sweep_along, sweep_down, sweep_end}
-use Rattle.judge.specs.Lent.{lent_plan}
-use borrow.Author.Rules.{rules}
+use Rattle.judge.proofs.SweepLaws.{sweep_from, sweep_few, sweep_twice, sweep_out, sweep_along, sweep_down, sweep_end}
 use Rattle.judge.proofs.walk.sweep.Goals as goal
 
 pub loop-e-init : goal.loop-e-init

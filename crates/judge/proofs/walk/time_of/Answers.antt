@@ -1,6 +1,5 @@
 use mathlib.Core.Path.{sym}
-use Rattle.laws.specs.Window.{time_awake, time_asleep}
-use borrow.Author.Rules.{rules}
+use Rattle.laws.proofs.Window.{time_awake, time_asleep}
 use Rattle.judge.proofs.walk.time_of.Goals as goal
 
 pub returns-then-o-c : goal.returns-then-o-c

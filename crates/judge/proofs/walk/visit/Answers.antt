@@ -1,7 +1,6 @@
 use native.Mathlib.Omega.{arith}
 use mathlib.Core.Path.{refl}
 use Rattle.judge.proofs.Visit.{visit_idle, visit_tick, slot_low, task_fit, visit_out, visit_note, walk_room}
-use borrow.Author.Rules.{rules}
 use Rattle.judge.proofs.walk.visit.Goals as goal
 
 pub bounds-slots-e : goal.bounds-slots-e

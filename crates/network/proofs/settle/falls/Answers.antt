@@ -1,7 +1,8 @@
 use Rattle.graph.specs.JobRows.{starts, ends, aheads}
 use Rattle.graph.specs.Cycle.{Falling}
-use Rattle.graph.specs.RowsFall.{fall_from, fall_start, fall_end, fall_on, fall_all}
-use Rattle.vocabulary.specs.Test.{clash}
+use Rattle.graph.proofs.RowsFall.{fall_start, fall_end}
+use Rattle.graph.proofs.RowsFall.{fall_from, fall_on, fall_all}
+use Rattle.vocabulary.proofs.Test.{clash}
 use mathlib.Core.Path.{refl}
 use Prim.Native.Nat.{◌-◌}
 use lib.ListN.{length}

@@ -1,5 +1,5 @@
-use Rattle.graph.specs.JobRows.{hop_on, hopped}
-use Rattle.vocabulary.specs.Test.{clash}
+use Rattle.graph.proofs.JobRows.{hop_on, hopped}
+use Rattle.vocabulary.proofs.Test.{clash}
 use mathlib.Core.Path.{refl}
 use borrow.Author.Rules.{rules}
 use Rattle.network.proofs.settle.hop.Goals as goal

@@ -1,5 +1,7 @@
-use Rattle.graph.specs.JobRows.{Rounds, rounds_from, still_ready, rounds_on, rounds_still, rounds_at}
-use Rattle.vocabulary.specs.Test.{clash}
+use Rattle.graph.specs.JobRows.{Rounds}
+use Rattle.graph.proofs.JobRows.{still_ready, rounds_on, rounds_still}
+use Rattle.graph.proofs.JobRows.{rounds_from, rounds_at}
+use Rattle.vocabulary.proofs.Test.{clash}
 use borrow.Author.Tests.{not-true}
 use native.Mathlib.Omega.{arith}
 use mathlib.Core.Path.{refl, ◌∙◌}

@@ -1,6 +1,8 @@
-use Rattle.graph.specs.Pass.{turn_low}
-use Rattle.graph.specs.JobRows.{Sweeps, sweep_from, sweep_hop, sweep_on, sweep_end}
-use Rattle.vocabulary.specs.Test.{clash}
+use Rattle.graph.proofs.Pass.{turn_low}
+use Rattle.graph.specs.JobRows.{Sweeps}
+use Rattle.graph.proofs.JobRows.{sweep_hop, sweep_on}
+use Rattle.graph.proofs.JobRows.{sweep_from, sweep_end}
+use Rattle.vocabulary.proofs.Test.{clash}
 use mathlib.Core.Path.{sym, ◌∙◌}
 use native.Mathlib.Omega.{arith}
 use Prim.Native.Nat.{◌-◌}
@@ -23,9 +25,9 @@ hop-requires c = sweep_hop _ _ _ c.requires _ _ _ c.loop-k.invariant c.loop-k-te
 
 pub loop-k-preserved : goal.loop-k-preserved
 loop-k-preserved c = elim c.if-hop.branch [
-    then-hop w ↦ sweep_on _ _ _ c.requires _ _ _ c.loop-k.invariant c.loop-k-test.true c.turned-i.ensures c.place.ensures.0 c.place-in-loop-k.ensures.0 _ _ _ c.hop.ensures (λ e. clash w.changed-is e)
-    | else-hop w ↦ sweep_on _ _ _ c.requires _ _ _ c.loop-k.invariant c.loop-k-test.true c.turned-i.ensures c.place.ensures.0 c.place-in-loop-k.ensures.0 _ _ _ c.hop.ensures (λ e. (sym w.changed-is ∙ e, w.if-hop.false))
-  ]
+  | then-hop w ↦ sweep_on _ _ _ c.requires _ _ _ c.loop-k.invariant c.loop-k-test.true c.turned-i.ensures c.place.ensures.0 c.place-in-loop-k.ensures.0 _ _ _ c.hop.ensures (λ e. clash w.changed-is e)
+  | else-hop w ↦ sweep_on _ _ _ c.requires _ _ _ c.loop-k.invariant c.loop-k-test.true c.turned-i.ensures c.place.ensures.0 c.place-in-loop-k.ensures.0 _ _ _ c.hop.ensures (λ e. (sym w.changed-is ∙ e, w.if-hop.false))
+]
 
 pub shape_of-jobs : goal.shape_of-jobs
 shape_of-jobs c = c.loop-k.invariant.long

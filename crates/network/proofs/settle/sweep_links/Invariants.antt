@@ -1,6 +1,8 @@
-use Rattle.graph.specs.Pass.{turn_low}
-use Rattle.graph.specs.JobRows.{Sweeps, sweep_from, sweep_hop, sweep_on, sweep_end}
-use Rattle.vocabulary.specs.Test.{clash}
+use Rattle.graph.proofs.Pass.{turn_low}
+use Rattle.graph.specs.JobRows.{Sweeps}
+use Rattle.graph.proofs.JobRows.{sweep_hop, sweep_on}
+use Rattle.graph.proofs.JobRows.{sweep_from, sweep_end}
+use Rattle.vocabulary.proofs.Test.{clash}
 use mathlib.Core.Logic.{⊎_elim}
 use mathlib.Core.Path.{sym, ◌∙◌}
 use native.Mathlib.Omega.{arith}

@@ -1,5 +1,5 @@
 use Rattle.network.specs.Outcome.{expand_asked, solve_asked, lowest_in_lem}
-use Rattle.vocabulary.specs.Prefix.{taken}
+use Rattle.vocabulary.proofs.Prefix.{taken}
 use mathlib.Core.Path.{refl, sym}
 use native.Mathlib.Omega.{arith}
 use borrow.Author.Rules.{rules}

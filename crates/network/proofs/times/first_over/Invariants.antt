@@ -1,5 +1,6 @@
 use Rattle.network.specs.JobTimes.{over, over_is}
-use Rattle.vocabulary.specs.Least.{Seeking, seek, on, hit, miss}
+use Rattle.vocabulary.specs.Least.{Seeking}
+use Rattle.vocabulary.proofs.Least.{seek, on, hit, miss}
 use borrow.Author.Tests.{lt-ltb, le-ltb}
 use mathlib.Core.Path.{sym, ◌∙◌}
 use native.Mathlib.Omega.{arith}

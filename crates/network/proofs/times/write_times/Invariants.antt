@@ -1,5 +1,6 @@
 use Rattle.network.specs.JobTimes.{signed_release, signed_due}
-use Rattle.vocabulary.specs.Table.{Filling, is, fill_from, fill_on, filled_table}
+use Rattle.vocabulary.specs.Table.{Filling, is}
+use Rattle.vocabulary.proofs.Table.{fill_from, fill_on, filled_table}
 use mathlib.Core.Path.{◌∙◌}
 use mir.Syntax.{w32}
 use mir.ValLaws.{to_z-of_z}

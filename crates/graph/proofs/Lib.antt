@@ -1,0 +1,12 @@
+pub mod Column
+pub mod Cycle
+pub mod Equation
+pub mod JobRows
+pub mod Listed
+pub mod Pass
+pub mod Reach
+pub mod RowsFall
+pub mod Search
+pub mod SearchRows
+pub mod Settle
+pub mod Sub

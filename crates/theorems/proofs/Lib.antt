@@ -1,0 +1,13 @@
+pub mod Accepted
+pub mod Demand2Bytes
+pub mod Demand3
+pub mod Demand3Bytes
+pub mod Demand3Calls
+pub mod Demand3ForC
+pub mod Demand3Heard
+pub mod Demand3Plans
+pub mod Demand3Rows
+pub mod Demand3Shown
+pub mod Demands
+pub mod OneTask
+pub mod TicksFell
