@@ -13,10 +13,11 @@ use Rattle.kinds.specs.Tasks.{Tasks, Set, period, offset, deadline}
 use Rattle.kinds.specs.Cycle.{cycle, jobs_of}
 use Rattle.kinds.specs.Jobs.{release}
 use Rattle.kinds.specs.Plans.{Plan, slot, shows, shown, awake, runs, ticks}
+use Rattle.laws.specs.Repeat.{SlotsAgain, ReleasesAgain}
 use Rattle.kinds.proofs.SoundFacts.{Sound, some_jobs}
 
 -- ---- slots
-pub slot_again : (p : Plan) (t c q : ℕ) → slot p (t + c * p.cycle) q ≡ slot p t q
+pub slot_again : (p : Plan) (t c q : ℕ) → SlotsAgain p t c q
 unfolding slot
 slot_again p t c q = rw add-mul-mod_self_right
 
@@ -61,7 +62,7 @@ unfolding release jobs_of
 release_later u i k n d = omega (arith, ap (λ (x : ℕ). n * x) (div-mul_cancel (period u i) d))
 
 -- job k's release, from that of the job of the first cycle that it repeats
-pub release_again : (u : Tasks) (i k : ℕ) → period u i ∣ cycle u → release u i k ≡ release u i (k % jobs_of u i) + k / jobs_of u i * cycle u
+pub release_again : (u : Tasks) (i k : ℕ) → period u i ∣ cycle u → ReleasesAgain u i k
 unfolding release jobs_of
 release_again u i k d =
     let n : ℕ = cycle u / period u i in

@@ -1,2 +1,3 @@
+pub mod Repeat
 pub mod Blocks
 pub mod Window
