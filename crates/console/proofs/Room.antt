@@ -1,8 +1,5 @@
 -- A number up to the length of a text counts bytes at its start.
-use mathlib.Core.List.{List}
-use Prim.Native.Nat.{ℕ, ◌≤◌}
-use native.Mathlib.Omega.{arith}
-use lib.ListN.{length, length-take}
+use Rattle.std.proofs.Common.{ℕ, ◌≤◌, List, length, length-take, arith}
 use Rattle.io.specs.Counts.{IsPrefixLen}
 
 pub counts : (n : ℕ) (xs : List ℕ) → n ≤ length xs → IsPrefixLen n xs

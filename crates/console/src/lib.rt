@@ -1,12 +1,15 @@
 // What the programs share: the input that they are given, and lines of text.
 #![tactic(auto)]
 
-ghost use Rattle.std.specs.Prelude.{◌≡◌, length};
+ghost use Rattle.std.specs.Prelude.{◌≡◌, IfOk, length};
 ghost use Rattle.io.specs.Counts.{IsPrefixLen};
 ghost use Rattle.console.specs.Signed.{size_of};
 ghost use Rattle.console.specs.Lines.{put_byte, put_first, Continues};
 
-use libc::STDOUT_FILENO;
+use std::env::{Env, FillError};
+use std::fs;
+use std::fs::Files;
+use std::io::{Error, ErrorKind, Read, Result};
 
 // Whether the input could be opened, and how many of its bytes stand at the start of the buffer.
 #[derive(Clone, Copy)]
@@ -22,60 +25,133 @@ pub struct Line {
     length: usize,
 }
 
-// Reads the file that the first argument names, or standard input where there is none, into buf. A file that cannot be opened gets a line on
-// standard error.
-pub fn load(buf: &mut [u8]) -> Input
-    ensures { IsPrefixLen result.length buf.new }
+// Whether the program was started with an argument i.
+pub fn has_arg(rt: &impl Env, i: usize) -> bool {
+    !matches!(rt.arg(i, &mut []), Err(FillError::NotPresent))
+}
+
+// Puts argument i at the start of buf and answers its length, or 0 where it is missing or longer than buf.
+fn arg(rt: &impl Env, i: usize, buf: &mut [u8]) -> usize
+    ensures { IsPrefixLen result buf.new }
 {
-    if os::arg_count() < 2 {
-        let n = io::read_full(libc::STDIN_FILENO, buf);
-        return Input {
+    match rt.arg(i, buf) {
+        Ok(n) => n,
+        Err(_) => io::count(0, buf),
+    }
+}
+
+// The text of a path, which std wants in UTF-8.
+fn path_text(path: &[u8]) -> Result<&str> {
+    match str::from_utf8(path) {
+        Ok(text) => Ok(text),
+        Err(_) => Err(Error::new(ErrorKind::InvalidInput, "the name is not UTF-8")),
+    }
+}
+
+fn open_read<R: Files>(rt: &R, path: &[u8]) -> Result<R::File> {
+    fs::open(rt, path_text(path)?)
+}
+
+fn overwrite(rt: &impl Files, path: &[u8], bytes: &[u8]) -> Result<()> {
+    fs::write(rt, path_text(path)?, bytes)
+}
+
+// Reads until buf is full or the input ends, and answers how many bytes now stand at the start of buf. A read that a signal cuts short is made again.
+fn read_full(reader: &mut impl Read, buf: &mut [u8]) -> Result<usize>
+    ensures kept { length buf.new ≡ length buf.old }
+    ensures ok { IfOk result (λ n. IsPrefixLen n buf.new) }
+{
+    let mut done = 0;
+    for _ in 0..u64::MAX {
+        if buf.len() <= done {
+            break;
+        }
+        match reader.read(&mut buf[done..]) {
+            Ok(0) => break,
+            Ok(n) => done += n,
+            Err(e) if e.kind() == ErrorKind::Interrupted => {}
+            Err(e) => return Err(e),
+        }
+    }
+    Ok(done)
+}
+
+// Writes a line to standard error: the path of a file, a colon and why it could not be opened or written.
+fn fail(rt: &(impl Eprint + Alloc), path: &[u8], error: Error) -> Result<()> {
+    let path = String::from_utf8_lossy(rt.alloc(), path)?;
+    let why = format!(in rt.alloc(); "{error}")?;
+    // The system's words stand alone, without their number.
+    let (words, _) = why
+        .as_str()
+        .split_once(" (os error ")
+        .unwrap_or((why.as_str(), ""));
+    eprintln!(rt; "{path}: {words}")
+}
+
+// Reads the file that the first argument names, or standard input where there is none, into buf. A file that cannot be opened gets a line on
+// standard error; a read that fails ends it with its error.
+pub fn load<R: Files + Env + std::io::Input + Eprint + Alloc>(
+    rt: &R,
+    buf: &mut [u8],
+) -> Result<Input>
+    ensures kept { length buf.new ≡ length buf.old }
+    ensures ok { IfOk result (λ input. IsPrefixLen input.length buf.new) }
+{
+    if !has_arg(rt, 1) {
+        let n = read_full(&mut rt.reader(), buf)?;
+        return Ok(Input {
             open: true,
             length: n,
-        };
+        });
     }
-    load_named(1, buf)
+    load_named(rt, 1, buf)
 }
 
 // Reads the file that argument i names into buf.
-pub fn load_named(i: usize, buf: &mut [u8]) -> Input
-    ensures { IsPrefixLen result.length buf.new }
+pub fn load_named<R: Files + Env + Eprint + Alloc>(
+    rt: &R,
+    i: usize,
+    buf: &mut [u8],
+) -> Result<Input>
+    ensures kept { length buf.new ≡ length buf.old }
+    ensures ok { IfOk result (λ input. IsPrefixLen input.length buf.new) }
 {
     let mut path = io::buffer();
-    let k = os::arg(i, &mut path);
-    let fd = os::open_read(&path[..k]);
-    if fd < 0 {
-        os::fail(&path[..k]);
-        let none = io::count(0, buf);
-        return Input {
-            open: false,
-            length: none,
-        };
-    }
-    let n = io::read_full(fd, buf);
-    libc::close(fd);
-    Input {
+    let k = arg(rt, i, &mut path);
+    let mut file = match open_read(rt, &path[..k]) {
+        Ok(file) => file,
+        Err(e) => {
+            fail(rt, &path[..k], e)?;
+            let none = io::count(0, buf);
+            return Ok(Input {
+                open: false,
+                length: none,
+            });
+        }
+    };
+    let n = read_full(&mut file, buf)?;
+    Ok(Input {
         open: true,
         length: n,
-    }
+    })
 }
 
 // Writes bytes to the file that argument i names, in place of what it held, and says whether that was done. A file that cannot be written gets a line on
 // standard error.
-pub fn save_named(i: usize, bytes: &[u8]) -> bool {
+pub fn save_named(
+    rt: &(impl Files + Env + Eprint + Alloc),
+    i: usize,
+    bytes: &[u8],
+) -> Result<bool> {
     let mut path = io::buffer();
-    let k = os::arg(i, &mut path);
-    let fd = os::open_overwrite(&path[..k]);
-    if fd < 0 {
-        os::fail(&path[..k]);
-        return false;
+    let k = arg(rt, i, &mut path);
+    match overwrite(rt, &path[..k], bytes) {
+        Ok(()) => Ok(true),
+        Err(e) => {
+            fail(rt, &path[..k], e)?;
+            Ok(false)
+        }
     }
-    let done = io::write_all(fd, bytes);
-    libc::close(fd);
-    if !done {
-        os::fail(&path[..k]);
-    }
-    done
 }
 
 // How many bytes of a text count, at most all.
@@ -108,6 +184,7 @@ impl Line {
     }
 
     // The line with a byte behind it; a line that is full stays as it is.
+    #[tactic(auto, unfolding(crate::specs::Lines::put_byte))]
     pub fn put_byte(mut self, x: u8) -> Line
         ensures { result ≡ put_byte self x }
     {
@@ -196,9 +273,9 @@ impl Line {
         self.put_right(Line::new().put_signed(x), width)
     }
 
-    pub fn print(self) {
+    pub fn print(self, rt: &impl Print) -> Result<()> {
         let text = self.text;
         let n = within(self.length, &text);
-        io::write_all(STDOUT_FILENO, &text[..n]);
+        rt.write_all(&text[..n])
     }
 }

@@ -6,6 +6,7 @@ use console::Line;
 use heads::Outcome;
 use kinds::{Attributes, Cycle, TaskSet};
 use screen::Adjusted;
+use std::io::Result;
 
 const JOBS: usize = Cycle::MOST_JOBS as usize;
 
@@ -19,84 +20,101 @@ fn put_answer(line: Line, a: Adjusted, jobs: usize) -> Line {
     }
 }
 
-fn print_answer(a: Adjusted, jobs: usize) {
+fn print_answer(rt: &impl Print, a: Adjusted, jobs: usize) -> Result<()> {
     let line = Line::new().put_number(screen::adjusted_number_of(a) as u64);
-    put_answer(line, a, jobs).put(b"\n").print();
+    put_answer(line, a, jobs).put(b"\n").print(rt)
 }
 
-fn print_job(i: usize, k: usize, release: i32, deadline: i32) {
+fn print_job(rt: &impl Print, i: usize, k: usize, release: i32, deadline: i32) -> Result<()> {
     let line = Line::new().put_column(i as u64, 2).put_column(k as u64, 5);
     line.put_signed_column(release, 7)
         .put_signed_column(deadline, 10)
         .put(b"\n")
-        .print();
+        .print(rt)
 }
 
 // The n jobs of task i, whose times stand from a place on; answers the place after them.
-fn print_jobs(i: usize, n: u32, start: usize, releases: &[i32], deadlines: &[i32]) -> usize {
-    let mut k: u32 = 0;
+fn print_jobs(
+    rt: &impl Print,
+    i: usize,
+    n: u32,
+    start: usize,
+    releases: &[i32],
+    deadlines: &[i32],
+) -> Result<usize> {
     let mut x = start;
-    while k < n {
+    for k in 0..n {
         if releases.len() <= x {
-            return x;
+            return Ok(x);
         }
         if deadlines.len() <= x {
-            return x;
+            return Ok(x);
         }
-        print_job(i, k as usize, releases[x], deadlines[x]);
+        print_job(rt, i, k as usize, releases[x], deadlines[x])?;
         x += 1;
-        k += 1;
     }
-    x
+    Ok(x)
 }
 
 // The jobs of the first n tasks in h ticks.
-fn print_times(attributes: &Attributes, n: usize, h: u32, releases: &[i32], deadlines: &[i32]) {
-    let mut i: usize = 0;
+fn print_times(
+    rt: &impl Print,
+    attributes: &Attributes,
+    n: usize,
+    h: u32,
+    releases: &[i32],
+    deadlines: &[i32],
+) -> Result<()> {
     let mut x: usize = 0;
-    while i < n {
+    for i in 0..n {
         let t = kinds::task_at(attributes, i);
         if t.period == 0 {
-            return;
+            return Ok(());
         }
-        x = print_jobs(i, h / t.period, x, releases, deadlines);
-        i += 1;
+        x = print_jobs(rt, i, h / t.period, x, releases, deadlines)?;
     }
+    Ok(())
 }
 
 // Answer and times, with a buffer for the releases and one for the deadlines.
-fn print_by(set: TaskSet, h: u32, releases: &mut [i32], deadlines: &mut [i32]) {
+fn print_by(
+    rt: &impl Print,
+    set: TaskSet,
+    h: u32,
+    releases: &mut [i32],
+    deadlines: &mut [i32],
+) -> Result<()> {
     let a = screen::adjust(set, releases, deadlines);
-    print_answer(a, releases.len());
+    print_answer(rt, a, releases.len())?;
     match a {
-        Adjusted::Written => print_times(&set.attributes, set.tasks, h, releases, deadlines),
-        _ => {}
+        Adjusted::Written => print_times(rt, &set.attributes, set.tasks, h, releases, deadlines),
+        _ => Ok(()),
     }
 }
 
-fn print_adjusted(set: TaskSet) {
+fn print_adjusted(rt: &impl Print, set: TaskSet) -> Result<()> {
     let f = kinds::counts_of(set);
     let n = f.jobs as usize;
     if JOBS < n {
-        return;
+        return Ok(());
     }
     let mut releases = [0i32; JOBS];
     let mut deadlines = [0i32; JOBS];
-    print_by(set, f.ticks, &mut releases[..n], &mut deadlines[..n]);
+    print_by(rt, set, f.ticks, &mut releases[..n], &mut deadlines[..n])
 }
 
-fn main() {
+fn main(rt: HostRuntime) -> Result<()> {
     let mut file = io::large_buffer();
-    let input = console::load(&mut file);
+    let input = console::load(&rt, &mut file)?;
     if !input.open {
-        return;
+        return Ok(());
     }
     let n = input.length;
     let loaded = reader::read(&file[..n]);
     let outcome = loaded.outcome;
     let set = loaded.set;
     match outcome {
-        Outcome::Refused(r) => wording::print_refusal(r),
-        Outcome::At(_) => print_adjusted(set),
+        Outcome::Refused(r) => wording::print_refusal(&rt, r),
+        Outcome::At(_) => print_adjusted(&rt, set),
     }
 }

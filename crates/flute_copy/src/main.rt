@@ -8,74 +8,75 @@ ghost use Rattle.std.specs.Prelude.{◌≡◌, true, ◌↔◌};
 use console::Line;
 use heads::Outcome;
 use kinds::TaskSet;
+use std::env::Env;
+use std::fs::Files;
+use std::io::Result;
 use writer::Written;
 
 fn are_same(a: &[u8], b: &[u8]) -> bool
     ensures { (result ≡ true) ↔ (a.now ≡ b.now) }
 {
-    if a.len() != b.len() {
-        return false;
-    }
-    let mut i: usize = 0;
-    while i < a.len() {
-        if a[i] != b[i] {
-            return false;
-        }
-        i += 1;
-    }
-    true
+    a == b
 }
 
-fn print_same(line: Line, same: bool) {
+fn print_same(rt: &impl Print, line: Line, same: bool) -> Result<()> {
     if same {
-        line.put(b" the bytes are the same\n").print();
-        return;
+        return line.put(b" the bytes are the same\n").print(rt);
     }
-    line.put(b" the bytes differ\n").print();
+    line.put(b" the bytes differ\n").print(rt)
 }
 
 // Hands on the new file, and says what it is.
-fn hand_on(file: &[u8], new: &[u8]) {
+fn hand_on(
+    rt: &(impl Files + Env + Print + Eprint + Alloc),
+    file: &[u8],
+    new: &[u8],
+) -> Result<()> {
     let line = Line::new().put_named(b"0 ", new.len() as u64);
     let same = are_same(file, new);
-    if os::arg_count() < 3 {
-        print_same(line, same);
-        return;
+    if !console::has_arg(rt, 2) {
+        return print_same(rt, line, same);
     }
-    if console::save_named(2, new) {
-        print_same(line.put(b" written:"), same);
+    if console::save_named(rt, 2, new)? {
+        return print_same(rt, line.put(b" written:"), same);
     }
+    Ok(())
 }
 
 // Writes set and plan of a file anew.
-fn write_anew(file: &[u8], set: TaskSet, plan: &[u8]) {
+fn write_anew(
+    rt: &(impl Files + Env + Print + Eprint + Alloc),
+    file: &[u8],
+    set: TaskSet,
+    plan: &[u8],
+) -> Result<()> {
     let mut out = io::large_buffer();
     let w = writer::write(set, plan, &mut out);
     match w {
-        Written::Length(n) => hand_on(file, &out[..n]),
+        Written::Length(n) => hand_on(rt, file, &out[..n]),
         _ => {
             let line = Line::new().put_number(writer::number_of(w) as u64);
-            line.put(b" the writer refuses what was read\n").print();
+            line.put(b" the writer refuses what was read\n").print(rt)
         }
     }
 }
 
-fn copy(file: &[u8], set: TaskSet) {
-    write_anew(file, set, place::slots_of(file));
+fn copy(rt: &(impl Files + Env + Print + Eprint + Alloc), file: &[u8], set: TaskSet) -> Result<()> {
+    write_anew(rt, file, set, place::slots_of(file))
 }
 
-fn main() {
+fn main(rt: HostRuntime) -> Result<()> {
     let mut file = io::large_buffer();
-    let input = console::load(&mut file);
+    let input = console::load(&rt, &mut file)?;
     if !input.open {
-        return;
+        return Ok(());
     }
     let n = input.length;
     let loaded = place::plan_of(&file[..n]);
     let outcome = loaded.outcome;
     let set = loaded.set;
     match outcome {
-        Outcome::Refused(r) => wording::print_refusal(r),
-        Outcome::At(_) => copy(&file[..n], set),
+        Outcome::Refused(r) => wording::print_refusal(&rt, r),
+        Outcome::At(_) => copy(&rt, &file[..n], set),
     }
 }

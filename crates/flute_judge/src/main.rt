@@ -3,24 +3,25 @@
 
 use heads::Outcome;
 use kinds::TaskSet;
+use std::io::Result;
 
-fn judge_and_print(set: TaskSet, plan: &[u8]) {
+fn judge_and_print(rt: &impl Print, set: TaskSet, plan: &[u8]) -> Result<()> {
     let v = judge::judge(set, plan);
-    verdicts::print_verdict(v, verdicts::asked_of(v, &set.attributes));
+    verdicts::print_verdict(rt, v, verdicts::asked_of(v, &set.attributes))
 }
 
-fn main() {
+fn main(rt: HostRuntime) -> Result<()> {
     let mut file = io::large_buffer();
-    let input = console::load(&mut file);
+    let input = console::load(&rt, &mut file)?;
     if !input.open {
-        return;
+        return Ok(());
     }
     let n = input.length;
     let loaded = place::plan_of(&file[..n]);
     let outcome = loaded.outcome;
     let set = loaded.set;
     match outcome {
-        Outcome::Refused(r) => wording::print_refusal(r),
-        Outcome::At(_) => judge_and_print(set, place::slots_of(&file[..n])),
+        Outcome::Refused(r) => wording::print_refusal(&rt, r),
+        Outcome::At(_) => judge_and_print(&rt, set, place::slots_of(&file[..n])),
     }
 }

@@ -11,6 +11,9 @@ use dispatcher::{Answer, State};
 use heads::Outcome;
 use judge::Verdict;
 use kinds::TaskSet;
+use std::env::Env;
+use std::fs::Files;
+use std::io::Result;
 
 // How many bytes a step's report has.
 const REPORT: usize = 8;
@@ -47,117 +50,131 @@ fn report_of(reports: &[u8], k: usize) -> u64 {
 }
 
 // A step's number, and a blank and a number for each byte of its row.
-fn print_row(k: usize, row: &[u8]) {
+fn print_row(rt: &impl Print, k: usize, row: &[u8]) -> Result<()> {
     let mut line = Line::new().put_number(k as u64);
-    let mut q: usize = 0;
-    while q < row.len() {
-        line = line.put_named(b" ", as_number(row[q]));
-        q += 1;
+    for x in row {
+        line = line.put_named(b" ", as_number(*x));
     }
-    line.put(b"\n").print();
+    line.put(b"\n").print(rt)
 }
 
 // The line for a step that is refused; three of its refusals are the judge's too.
-fn print_refused(a: Answer) {
+fn print_refused(rt: &impl Print, a: Answer) -> Result<()> {
     match a {
-        Answer::Shown => {}
-        Answer::BadSet => verdicts::print_verdict(Verdict::BadSet, 0),
-        Answer::WrongLength => verdicts::print_verdict(Verdict::WrongLength, 0),
+        Answer::Shown => Ok(()),
+        Answer::BadSet => verdicts::print_verdict(rt, Verdict::BadSet, 0),
+        Answer::WrongLength => verdicts::print_verdict(rt, Verdict::WrongLength, 0),
         Answer::BadState => Line::new()
             .put(b"30 the dispatcher's state is not possible\n")
-            .print(),
+            .print(rt),
         Answer::BadReport => Line::new()
             .put(b"31 a report has a bit at or above the task count\n")
-            .print(),
-        Answer::BadSlot(e) => verdicts::print_verdict(Verdict::BadSlot(e), 0),
+            .print(rt),
+        Answer::BadSlot(e) => verdicts::print_verdict(rt, Verdict::BadSlot(e), 0),
     }
 }
 
 // Prints step k; answers whether the play goes on.
-fn print_step(k: usize, a: Answer, row: &[u8]) -> bool {
+fn print_step(rt: &impl Print, k: usize, a: Answer, row: &[u8]) -> Result<bool> {
     match a {
         Answer::Shown => {
-            print_row(k, row);
-            true
+            print_row(rt, k, row)?;
+            Ok(true)
         }
         _ => {
-            print_refused(a);
-            false
+            print_refused(rt, a)?;
+            Ok(false)
         }
     }
 }
 
 // Plays so many steps with the reports, as far as none is refused. The row has a byte a processor.
 fn play_steps(
+    rt: &impl Print,
     set: TaskSet,
     plan: &[u8],
     start: State,
     reports: &[u8],
     steps: usize,
     row: &mut [u8],
-) {
+) -> Result<()> {
     let mut state = start;
-    let mut k: usize = 0;
-    while k < steps {
+    for k in 0..steps {
         let r = state.step(set, plan, report_of(reports, k), row);
         let answer = r.answer;
         let next = r.state;
-        if !print_step(k, answer, row) {
-            return;
+        if !print_step(rt, k, answer, row)? {
+            return Ok(());
         }
         state = next;
-        k += 1;
     }
+    Ok(())
 }
 
-fn play_from(set: TaskSet, plan: &[u8], state: State, reports: &[u8], steps: usize) {
+fn play_from(
+    rt: &impl Print,
+    set: TaskSet,
+    plan: &[u8],
+    state: State,
+    reports: &[u8],
+    steps: usize,
+) -> Result<()> {
     let mut row = [0u8; ROW];
     let m = set.processors as usize;
     if m <= ROW {
-        verdicts::print_verdict(Verdict::Accepted, 0);
-        play_steps(set, plan, state, reports, steps, &mut row[..m]);
+        verdicts::print_verdict(rt, Verdict::Accepted, 0)?;
+        return play_steps(rt, set, plan, state, reports, steps, &mut row[..m]);
     }
+    Ok(())
 }
 
 // Plays an accepted plan: one cycle, or as many steps as the second argument's file has reports for. That file is read as far as it fits a large
 // buffer: 8,192 steps.
-fn play_accepted(set: TaskSet, plan: &[u8], state: State) {
+fn play_accepted<R: Files + Env + Print + Eprint + Alloc>(
+    rt: &R,
+    set: TaskSet,
+    plan: &[u8],
+    state: State,
+) -> Result<()> {
     let mut reports = io::large_buffer();
-    if os::arg_count() < 3 {
+    if !console::has_arg(rt, 2) {
         let f = kinds::counts_of(set);
-        play_from(set, plan, state, b"", f.ticks as usize);
-        return;
+        return play_from(rt, set, plan, state, b"", f.ticks as usize);
     }
-    let input = console::load_named(2, &mut reports);
+    let input = console::load_named(rt, 2, &mut reports)?;
     if !input.open {
-        return;
+        return Ok(());
     }
     let n = input.length;
-    play_from(set, plan, state, &reports[..n], n / REPORT);
+    play_from(rt, set, plan, state, &reports[..n], n / REPORT)
 }
 
-fn judge_and_play(set: TaskSet, plan: &[u8]) {
+fn judge_and_play<R: Files + Env + Print + Eprint + Alloc>(
+    rt: &R,
+    set: TaskSet,
+    plan: &[u8],
+) -> Result<()> {
     let started = State::new().start(set, plan);
     let verdict = started.verdict;
     let state = started.state;
     match verdict {
-        Verdict::Accepted => play_accepted(set, plan, state),
-        _ => verdicts::print_verdict(verdict, verdicts::asked_of(verdict, &set.attributes)),
+        Verdict::Accepted => play_accepted(rt, set, plan, state),
+        _ => verdicts::print_verdict(rt, verdict, verdicts::asked_of(verdict, &set.attributes)),
     }
 }
 
-fn main() {
+fn main(rt: HostRuntime) -> Result<()> {
     let mut file = io::large_buffer();
-    let input = console::load(&mut file);
+    let input = console::load(&rt, &mut file)?;
     if !input.open {
-        return;
+        return Ok(());
     }
     let n = input.length;
     let loaded = place::plan_of(&file[..n]);
     let outcome = loaded.outcome;
     let set = loaded.set;
     match outcome {
-        Outcome::Refused(r) => wording::print_refusal(r),
-        Outcome::At(_) => judge_and_play(set, place::slots_of(&file[..n])),
+        Outcome::Refused(r) => wording::print_refusal(&rt, r),
+        Outcome::At(_) => judge_and_play(&rt, set, place::slots_of(&file[..n])),
     }
 }

@@ -5,72 +5,70 @@
 use console::Line;
 use heads::Outcome;
 use kinds::{Headings, Pair, Pairs, Pattern, TaskSet};
+use std::io::Result;
 
-fn print_pair(p: Pair) {
+fn print_pair(rt: &impl Print, p: Pair) -> Result<()> {
     let line = Line::new()
         .put_named(b" (", p.first as u64)
         .put_named(b", ", p.second as u64);
-    line.put(b")").print();
+    line.put(b")").print(rt)
 }
 
 // The n pairs from a place on; answers the place after them.
-fn print_pairs(pairs: &Pairs, start: usize, n: u32) -> usize {
-    let mut k: u32 = 0;
+fn print_pairs(rt: &impl Print, pairs: &Pairs, start: usize, n: u32) -> Result<usize> {
     let mut x = start;
-    while k < n {
+    for _ in 0..n {
         if TaskSet::MOST_PAIRS <= x {
-            return x;
+            return Ok(x);
         }
-        print_pair(kinds::pair_at(pairs, x));
+        print_pair(rt, kinds::pair_at(pairs, x))?;
         x += 1;
-        k += 1;
     }
-    x
+    Ok(x)
 }
 
-fn print_pattern(k: usize, p: Pattern) {
+fn print_pattern(rt: &impl Print, k: usize, p: Pattern) -> Result<()> {
     let line = Line::new()
         .put_column(k as u64, 8)
         .put_column(p.from as u64, 6);
-    line.put_column(p.to as u64, 4).put(b" ").print();
+    line.put_column(p.to as u64, 4).put(b" ").print(rt)
 }
 
 // A line for each of the first n patterns.
-fn print_patterns<'a>(headings: &'a Headings, pairs: &'a Pairs, n: usize) {
-    Line::new().put(b" pattern  from  to  pairs\n").print();
-    let mut k: usize = 0;
+fn print_patterns(rt: &impl Print, headings: &Headings, pairs: &Pairs, n: usize) -> Result<()> {
+    Line::new().put(b" pattern  from  to  pairs\n").print(rt)?;
     let mut x: usize = 0;
-    while k < n {
+    for k in 0..n {
         let p = kinds::pattern_at(headings, k);
-        print_pattern(k, p);
-        x = print_pairs(pairs, x, p.pairs);
-        Line::new().put(b"\n").print();
-        k += 1;
+        print_pattern(rt, k, p)?;
+        x = print_pairs(rt, pairs, x, p.pairs)?;
+        Line::new().put(b"\n").print(rt)?;
     }
+    Ok(())
 }
 
-fn print_set(place: usize, set: TaskSet) {
-    wording::print_read(place, kinds::counts_of(set));
-    wording::print_tasks(&set.attributes, set.tasks, false);
+fn print_set(rt: &impl Print, place: usize, set: TaskSet) -> Result<()> {
+    wording::print_read(rt, place, kinds::counts_of(set))?;
+    wording::print_tasks(rt, &set.attributes, set.tasks, false)?;
     let k = set.patterns;
     if k == 0 {
-        return;
+        return Ok(());
     }
-    print_patterns(&set.headings, &set.pairs, k);
+    print_patterns(rt, &set.headings, &set.pairs, k)
 }
 
-fn main() {
+fn main(rt: HostRuntime) -> Result<()> {
     let mut file = io::large_buffer();
-    let input = console::load(&mut file);
+    let input = console::load(&rt, &mut file)?;
     if !input.open {
-        return;
+        return Ok(());
     }
     let n = input.length;
     let loaded = reader::read(&file[..n]);
     let outcome = loaded.outcome;
     let set = loaded.set;
     match outcome {
-        Outcome::Refused(r) => wording::print_refusal(r),
-        Outcome::At(place) => print_set(place, set),
+        Outcome::Refused(r) => wording::print_refusal(&rt, r),
+        Outcome::At(place) => print_set(&rt, place, set),
     }
 }

@@ -5,6 +5,7 @@ use console::Line;
 use heads::Outcome;
 use kinds::{Attributes, Cycle, TaskSet};
 use screen::Finding;
+use std::io::Result;
 
 const JOBS: usize = Cycle::MOST_JOBS as usize;
 
@@ -19,14 +20,12 @@ fn jobs_within(t: u32, h: u32) -> u32 {
 // The place of job k of task i among a cycle's jobs, by task, then job.
 fn place_of(attributes: &Attributes, h: u32, i: usize, k: u32) -> usize {
     let mut x = k as usize;
-    let mut j: usize = 0;
-    while j < i {
+    for j in 0..i {
         if JOBS < x {
             return x;
         }
         let t = kinds::task_at(attributes, j);
         x += jobs_within(t.period, h) as usize;
-        j += 1;
     }
     x
 }
@@ -93,24 +92,24 @@ fn put_finding(line: Line, set: TaskSet, f: Finding) -> Line {
     }
 }
 
-fn print_finding(set: TaskSet) {
+fn print_finding(rt: &impl Print, set: TaskSet) -> Result<()> {
     let f = screen::screen(set);
     let line = Line::new().put_number(screen::number_of(f) as u64);
-    put_finding(line, set, f).put(b"\n").print();
+    put_finding(line, set, f).put(b"\n").print(rt)
 }
 
-fn main() {
+fn main(rt: HostRuntime) -> Result<()> {
     let mut file = io::large_buffer();
-    let input = console::load(&mut file);
+    let input = console::load(&rt, &mut file)?;
     if !input.open {
-        return;
+        return Ok(());
     }
     let n = input.length;
     let loaded = reader::read(&file[..n]);
     let outcome = loaded.outcome;
     let set = loaded.set;
     match outcome {
-        Outcome::Refused(r) => wording::print_refusal(r),
-        Outcome::At(_) => print_finding(set),
+        Outcome::Refused(r) => wording::print_refusal(&rt, r),
+        Outcome::At(_) => print_finding(&rt, set),
     }
 }

@@ -7,6 +7,7 @@ ghost use Rattle.std.specs.Prelude.{◌+◌, ◌<◌, ◌≤◌, length};
 use console::Line;
 use heads::Outcome;
 use kinds::TaskSet;
+use std::io::Result;
 
 // How many ticks stand in a line, so that it fits a terminal of 80 columns.
 const TICKS: usize = 60;
@@ -14,7 +15,7 @@ const TICKS: usize = 60;
 const PROCESSORS: usize = TaskSet::MOST_PROCESSORS as usize;
 
 // The numbers of every tenth tick; the last digit stands above its tick.
-fn print_numbers(from: usize, n: usize)
+fn print_numbers(rt: &impl Print, from: usize, n: usize) -> Result<()>
     requires { (n ≤ 60) × (from + n < 18446744073709551616) }
 {
     let mut line = Line::new().put(b"\n tick").put_column(from as u64, 10);
@@ -23,18 +24,18 @@ fn print_numbers(from: usize, n: usize)
         line = line.put_column((from + k) as u64, 10);
         k += 10;
     }
-    line.put(b"\n").print();
+    line.put(b"\n").print(rt)
 }
 
 // A mark above every tick.
-fn print_marks(n: usize) {
+fn print_marks(rt: &impl Print, n: usize) -> Result<()> {
     let line = Line::new().put(b"              ");
     let marks = b"|----+----|----+----|----+----|----+----|----+----|----+----";
-    line.put_first(marks, n).put(b"\n").print();
+    line.put_first(marks, n).put(b"\n").print(rt)
 }
 
 // A processor's line: the signs of its slots, which lie m apart.
-fn print_processor(block: &[u8], m: usize, q: usize)
+fn print_processor(rt: &impl Print, block: &[u8], m: usize, q: usize) -> Result<()>
     requires { 0 < m }
 {
     let mut line = Line::new()
@@ -46,17 +47,16 @@ fn print_processor(block: &[u8], m: usize, q: usize)
         line = line.put_byte(wording::sign_of(block[x]));
         x = end_of(x, m, block.len());
     }
-    line.put(b"\n").print();
+    line.put(b"\n").print(rt)
 }
 
-fn print_processors(block: &[u8], m: usize)
+fn print_processors(rt: &impl Print, block: &[u8], m: usize) -> Result<()>
     requires { 0 < m }
 {
-    let mut q: usize = 0;
-    while q < m {
-        print_processor(block, m, q);
-        q += 1;
+    for q in 0..m {
+        print_processor(rt, block, m, q)?;
     }
+    Ok(())
 }
 
 // How many ticks of m slots each a block has, at most those of a line.
@@ -69,13 +69,13 @@ fn ticks_in(length: usize, m: usize) -> usize
 }
 
 // A part of the chart, whose slots begin at a place of the plan.
-fn print_block(block: &[u8], m: usize, at: usize)
+fn print_block(rt: &impl Print, block: &[u8], m: usize, at: usize) -> Result<()>
     requires { (0 < m) × (at + length block.now < 18446744073709551616) }
 {
     let n = ticks_in(block.len(), m);
-    print_numbers(at / m, n);
-    print_marks(n);
-    print_processors(block, m);
+    print_numbers(rt, at / m, n)?;
+    print_marks(rt, n)?;
+    print_processors(rt, block, m)
 }
 
 // The place that lies size behind a place, at most the end.
@@ -89,42 +89,44 @@ fn end_of(at: usize, size: usize, length: usize) -> usize
     at + size
 }
 
-fn print_chart(plan: &[u8], m: usize)
+fn print_chart(rt: &impl Print, plan: &[u8], m: usize) -> Result<()>
     requires { (0 < m) × (m ≤ 8) }
 {
     let size = m * TICKS;
     let mut at: usize = 0;
     while at < plan.len() {
         let end = end_of(at, size, plan.len());
-        print_block(&plan[at..end], m, at);
+        print_block(rt, &plan[at..end], m, at)?;
         at = end;
     }
+    Ok(())
 }
 
-fn show(place: usize, set: TaskSet, plan: &[u8]) {
-    wording::print_read(place, kinds::counts_of(set));
-    wording::print_tasks(&set.attributes, set.tasks, true);
+fn show(rt: &impl Print, place: usize, set: TaskSet, plan: &[u8]) -> Result<()> {
+    wording::print_read(rt, place, kinds::counts_of(set))?;
+    wording::print_tasks(rt, &set.attributes, set.tasks, true)?;
     let m = set.processors as usize;
     if m == 0 {
-        return;
+        return Ok(());
     }
     if m <= PROCESSORS {
-        print_chart(plan, m);
+        return print_chart(rt, plan, m);
     }
+    Ok(())
 }
 
-fn main() {
+fn main(rt: HostRuntime) -> Result<()> {
     let mut file = io::large_buffer();
-    let input = console::load(&mut file);
+    let input = console::load(&rt, &mut file)?;
     if !input.open {
-        return;
+        return Ok(());
     }
     let n = input.length;
     let loaded = place::plan_of(&file[..n]);
     let outcome = loaded.outcome;
     let set = loaded.set;
     match outcome {
-        Outcome::Refused(r) => wording::print_refusal(r),
-        Outcome::At(at) => show(at, set, place::slots_of(&file[..n])),
+        Outcome::Refused(r) => wording::print_refusal(&rt, r),
+        Outcome::At(at) => show(&rt, at, set, place::slots_of(&file[..n])),
     }
 }

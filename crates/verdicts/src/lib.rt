@@ -7,8 +7,10 @@ ghost use Rattle.verdicts.specs.Asked.{asked_by};
 use console::Line;
 use judge::Verdict;
 use kinds::Attributes;
+use std::io;
 
 // The ticks that a job with a wrong count asks for, of a set with these attributes; 0 for any other verdict.
+#[tactic(auto, unfolding(crate::specs::Asked::asked_by))]
 pub fn asked_of(v: Verdict, attributes: &Attributes) -> u32
     ensures { result ≡ asked_by v attributes.now }
 {
@@ -84,7 +86,7 @@ fn put_meaning(line: Line, v: Verdict, asked: u32) -> Line {
 }
 
 // The line for a verdict: number, evidence, words. A wrong count is told with the ticks that were asked for.
-pub fn print_verdict(v: Verdict, asked: u32) {
+pub fn print_verdict(rt: &impl Print, v: Verdict, asked: u32) -> io::Result<()> {
     let line = Line::new().put_number(judge::number_of(v) as u64);
-    put_meaning(line, v, asked).put(b"\n").print();
+    put_meaning(line, v, asked).put(b"\n").print(rt)
 }

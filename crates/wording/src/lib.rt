@@ -9,6 +9,7 @@ use console::Line;
 use heads::Outcome;
 use kinds::{Attributes, Counts, Task, TaskSet};
 use numbers::Refusal;
+use std::io;
 
 // Two numbers, each behind a blank.
 pub fn put_two(line: Line, a: u32, b: u32) -> Line
@@ -45,7 +46,7 @@ pub fn put_on_cycle(line: Line, i: u32, k: u32) -> Line
 }
 
 // The line for a file that was read: number, evidence (the place of the first slot), words.
-pub fn print_read(place: usize, set: Counts) {
+pub fn print_read(rt: &impl Print, place: usize, set: Counts) -> io::Result<()> {
     let mut line = Line::new()
         .put_named(b"0 ", place as u64)
         .put_named(b" read: edition ", set.edition as u64)
@@ -54,7 +55,7 @@ pub fn print_read(place: usize, set: Counts) {
     line = put_counted(line, set.processors as u64, b" processor");
     line.put_named(b", cycle ", set.ticks as u64)
         .put(b"\n")
-        .print();
+        .print(rt)
 }
 
 // What a refusal of the reader means.
@@ -73,14 +74,15 @@ fn put_reason(line: Line, r: Refusal) -> Line {
 }
 
 // The line for a file that the reader refuses: number, evidence, words.
-pub fn print_refusal(r: Refusal) {
+pub fn print_refusal(rt: &impl Print, r: Refusal) -> io::Result<()> {
     let o = Outcome::Refused(r);
     let mut line = Line::new().put_number(reader::number_of(o) as u64);
     line = line.put_named(b" ", reader::evidence_of(o) as u64);
-    put_reason(line, r).put(b"\n").print();
+    put_reason(line, r).put(b"\n").print(rt)
 }
 
 // The sign of a slot, where task i is shown by slot i + 1: 64 tasks need more than digits and letters.
+#[tactic(auto, unfolding(crate::specs::Signs::sign_of))]
 pub fn sign_of(slot: u8) -> u8
     ensures { result ≡ sign_of slot }
 {
@@ -123,38 +125,41 @@ fn put_cells(named: bool, i: usize, t: Task) -> Line {
 }
 
 // The names of the columns, with one for the signs where they are asked for.
-fn print_names(first: Task, signed: bool) {
+fn print_names(rt: &impl Print, first: Task, signed: bool) -> io::Result<()> {
     let names = put_cells(true, 0, first);
     if signed {
-        names.put(b"  sign\n").print();
-        return;
+        return names.put(b"  sign\n").print(rt);
     }
-    names.put(b"\n").print();
+    names.put(b"\n").print(rt)
 }
 
-fn print_task(i: usize, t: Task, signed: bool)
+fn print_task(rt: &impl Print, i: usize, t: Task, signed: bool) -> io::Result<()>
     requires { i < 64 }
 {
     let row = put_cells(false, i, t);
     if signed {
-        row.put(b"     ")
+        return row
+            .put(b"     ")
             .put_byte(sign_of((i + 1) as u8))
             .put(b"\n")
-            .print();
-        return;
+            .print(rt);
     }
-    row.put(b"\n").print();
+    row.put(b"\n").print(rt)
 }
 
 // The names of the columns, and a line for each of the first n tasks.
-pub fn print_tasks(attributes: &Attributes, n: usize, signed: bool) {
-    print_names(kinds::task_at(attributes, 0), signed);
-    let mut i: usize = 0;
-    while i < n {
+pub fn print_tasks(
+    rt: &impl Print,
+    attributes: &Attributes,
+    n: usize,
+    signed: bool,
+) -> io::Result<()> {
+    print_names(rt, kinds::task_at(attributes, 0), signed)?;
+    for i in 0..n {
         if TaskSet::MOST_TASKS <= i {
-            return;
+            return Ok(());
         }
-        print_task(i, kinds::task_at(attributes, i), signed);
-        i += 1;
+        print_task(rt, i, kinds::task_at(attributes, i), signed)?;
     }
+    Ok(())
 }
