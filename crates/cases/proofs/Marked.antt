@@ -1,6 +1,5 @@
 -- The marked cases are answered so by the definitions.
-use Rattle.std.specs.Prelude.{refl, List, [], ◌∷◌, ℕ, ℤ, pos, set, drop}
-use Rattle.std.proofs.Math.IntN.{sub_ℕ}
+use Rattle.std.specs.Prelude.{refl}
 use Rattle.vocabulary.specs.Least.{least, greatest, all}
 use Rattle.vocabulary.specs.First.{first_of}
 use Rattle.vocabulary.specs.Count.{count}
@@ -13,7 +12,7 @@ use Rattle.graph.specs.Longest as longest
 use Rattle.graph.specs.Soonest as soonest
 use Rattle.kinds.specs.Limits.{holds, rises}
 use Rattle.kinds.specs.Editions.{edition_of}
-use Rattle.kinds.specs.Tasks.{Set, view, pairs_in}
+use Rattle.kinds.specs.Tasks.{pairs_in}
 use Rattle.kinds.specs.Cycle.{cycle, jobs_of, jobs_before, jobs, cycle_fits}
 use Rattle.kinds.specs.Jobs.{release, due, in_window, number_of_job, task_of_job, job_of_job}
 use Rattle.kinds.specs.Links.{common, link_from, link_to, repeats, links_of, links, inner, spans_of, links_in}
@@ -32,9 +31,8 @@ use Rattle.network.specs.Causes.{on_cycle, load, room, tight_by}
 use Rattle.screen.specs.Findings.{screen_rules, finding_by}
 use Rattle.dispatcher.specs.Steps.{releases, heard, done_at, done_of, asleep, byte_of, row_of, stands_at, in_row, ran_of, after_of, step_of}
 use Rattle.dispatcher.specs.Runs.{state_at, shown_at}
-use Rattle.cases.specs.Questions.{Row, Answered, is, refused_by, says, times, rows, at, gets, reply, number_reply}
+use Rattle.cases.specs.Questions.{Answered, reply, number_reply}
 use Rattle.cases.specs.Questions.{task_numbers, heading_numbers, pair_numbers, set_of, silence, report_after}
-use Rattle.cases.specs.Questions as ask
 use Rattle.cases.specs.Marked.{file_a, set_a, slots_a, set_c, slots_c, set_d, slots_d, set_g, set_h, set_i, set_j, set_k, minus, cases}
 
 -- ==== The definitions answer every marked case as it is printed.

@@ -1,5 +1,5 @@
 -- Laws of the definitions in specs/Cycle.antt.
-use Rattle.std.specs.Prelude.{◌≡◌, List, ℕ, ◌<◌, length}
+use Rattle.std.specs.Prelude.{◌≡◌, List, ℕ, length}
 use Rattle.std.proofs.Common.{sym, ap, arith}
 use Rattle.vocabulary.proofs.Least.{least_only}
 use Rattle.graph.specs.Graph.{Graph, LinksInside, graph_of, loops, lowest}

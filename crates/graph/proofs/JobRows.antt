@@ -3,7 +3,7 @@ use Rattle.std.specs.Prelude.{◌≡◌, refl, Bool, true, false, List, [], ℕ,
 use Rattle.std.proofs.Common.{sym, ◌∙◌, arith, length-set}
 use Rattle.graph.specs.Column.{column}
 use Rattle.graph.proofs.Column.{column_long, column_at, column_set, column_kept}
-use Rattle.graph.specs.Pass.{limit, at, Lined, Raised, turn, PassingLinks, Settling}
+use Rattle.graph.specs.Pass.{limit, at, Lined, Raised, turn, PassingLinks}
 use Rattle.graph.proofs.Pass.{raised, not_raised, turn_low, pass_from, pass_on, settle_from}
 use Rattle.graph.proofs.Pass.{settle_on, settle_still}
 use Rattle.graph.specs.Cycle.{Between}

@@ -12,7 +12,7 @@ use Rattle.graph.specs.Soonest.{soonest}
 use Rattle.graph.specs.Sub.{flip}
 use Rattle.graph.proofs.Sub.{sub_ge, sub_lt, soonest_sub}
 use Rattle.graph.proofs.Equation.{flip_free}
-use Rattle.graph.specs.Pass.{limit, at, Lined, Settled}
+use Rattle.graph.specs.Pass.{at, Lined, Settled}
 use Rattle.graph.proofs.Pass.{settled_free}
 use Rattle.graph.specs.Cycle.{Between}
 use Rattle.graph.proofs.Cycle.{between_inside, between_back, turned}

@@ -1,13 +1,11 @@
 -- Laws of the definitions in specs/Pass.antt.
-use Rattle.std.specs.Prelude.{◌≡◌, refl, Bool, true, false, List, ◌⊎◌, ℕ, zero, suc, ◌+◌, ◌-◌, ◌*◌, ◌≤◌, ◌<◌, min, length, get_or, set}
+use Rattle.std.specs.Prelude.{◌≡◌, refl, Bool, true, false, List, ◌⊎◌, ℕ, zero, suc, ◌+◌, ◌*◌, ◌≤◌, ◌<◌, min, length, set}
 use Rattle.std.proofs.Common.{sym, ap, ◌∙◌, inl, inr, ⊎_elim, add-one, arith, length-set, get_or-set_same, get_or-set_other}
-use Rattle.vocabulary.specs.Test.{pick}
 use Rattle.vocabulary.proofs.Test.{clash, lt_or_le, eq_or_ne}
 use Rattle.graph.specs.Graph.{Graph, LinksInside, graph_of}
 use Rattle.graph.specs.Reach.{Free}
 use Rattle.graph.specs.Longest.{entry, rounds}
 use Rattle.graph.proofs.Settle.{rounds_solve}
-use Rattle.graph.specs.Settle.{Over}
 use Rattle.graph.proofs.Settle.{entry_under, rounds_bound, solves_over}
 use Rattle.graph.specs.Pass.{limit, at, Lined, Raised, turn, PassingLinks, Passed, Settling, Settled}
 

@@ -1,18 +1,16 @@
 -- Laws of the definitions in specs/SearchRows.antt.
-use Rattle.std.specs.Prelude.{◌≡◌, refl, Bool, true, false, List, [], ◌∷◌, ◌⊎◌, ℕ, ◌+◌, ◌-◌, ◌≤◌, ◌<◌, length, get_or, set}
+use Rattle.std.specs.Prelude.{◌≡◌, refl, Bool, true, false, List, [], ◌⊎◌, ℕ, ◌+◌, ◌-◌, ◌≤◌, ◌<◌, length, get_or, set}
 use Rattle.std.proofs.Common.{sym, ap, ◌∙◌, inl, inr, ⊎_elim, arith, length-set, get_or-set_same, get_or-set_other}
 use Rattle.std.proofs.Math.ListN.{get_or-eq_default}
 use Rattle.vocabulary.proofs.Test.{clash, lt_or_le, eq_or_ne}
-use Rattle.vocabulary.specs.Least.{Seeking}
 use Rattle.vocabulary.proofs.Least.{seek, on, hit, miss}
-use Rattle.graph.specs.Graph.{Graph, graph_of, Way, loops, lowest}
+use Rattle.graph.specs.Graph.{graph_of, Way, loops, lowest}
 use Rattle.graph.proofs.Reach.{loops_iff}
 use Rattle.graph.specs.Column.{column}
 use Rattle.graph.proofs.Column.{column_long, column_at, column_set, column_kept}
 use Rattle.graph.specs.Pass.{at}
-use Rattle.graph.specs.Cycle.{Between}
 use Rattle.graph.proofs.Cycle.{between_inside}
-use Rattle.graph.specs.Search.{Threaded, Came, Queued}
+use Rattle.graph.specs.Search.{Queued}
 use Rattle.graph.proofs.Search.{thread_from, thread_on, queue_low, queue_from, queue_room, queue_on, queue_grown}
 use Rattle.graph.specs.Search.{Grown, Closed}
 use Rattle.graph.proofs.Search.{mark_here, grown_none, grown_on, closed_grown, way_by, no_loop}

@@ -1,6 +1,5 @@
 -- A row of records, each a short list of numbers, by its columns.
-use Rattle.std.specs.Prelude.{◌≡◌, refl, List, [], ◌∷◌, ℕ, zero, suc, length, get_or, set}
-use Rattle.std.proofs.Common.{sym, ap, ◌∙◌}
+use Rattle.std.specs.Prelude.{List, [], ◌∷◌, ℕ, get_or}
 
 -- number k of each record
 unfoldable pub column : ℕ → List (List ℕ) → List ℕ

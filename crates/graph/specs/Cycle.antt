@@ -1,10 +1,5 @@
 -- Links in two lists, and numbers that show that no job lies on a cycle.
 use Rattle.std.specs.Prelude.{◌≡◌, List, ℕ, ◌<◌, length}
-use Rattle.std.proofs.Common.{sym, ap, arith}
-use Rattle.vocabulary.proofs.Least.{least_only}
-use Rattle.graph.specs.Graph.{Graph, LinksInside, graph_of, loops, lowest}
-use Rattle.graph.specs.Reach.{Free}
-use Rattle.graph.specs.Sub.{flip}
 use Rattle.graph.specs.Pass.{at}
 
 -- link k leads from job `at f k` to job `at t k`, both below n

@@ -1,8 +1,7 @@
 -- Rounds for both times at once, over a row of jobs. A job's record is its running time, its release, and how far before a fixed tick it is due.
-use Rattle.std.specs.Prelude.{◌≡◌, refl, Bool, true, false, List, [], ℕ, ◌+◌, ◌≤◌, ◌<◌, min, length, get_or, set}
-use Rattle.std.proofs.Common.{sym, ◌∙◌, arith, length-set}
+use Rattle.std.specs.Prelude.{◌≡◌, Bool, List, ℕ, ◌≤◌, ◌<◌, length}
 use Rattle.graph.specs.Column.{column}
-use Rattle.graph.specs.Pass.{limit, at, Lined, Raised, turn, PassingLinks, Settling}
+use Rattle.graph.specs.Pass.{limit, at, Raised, PassingLinks, Settling}
 use Rattle.graph.specs.Cycle.{Between}
 
 abbrev pub runs : List (List ℕ) → List ℕ

@@ -1,16 +1,6 @@
 -- Where no links make a cycle, rounds over lists leave the solutions of the equations.
-use Rattle.std.specs.Prelude.{◌≡◌, List, ◌⊎◌, ℕ, zero, suc, ◌+◌, ◌-◌, ◌*◌, ◌≤◌, ◌<◌, ltb, ℤ, pos, length}
-use Rattle.std.proofs.Common.{sym, ap, ◌∙◌, subst, inl, inr, arith, lt-ltb, ltb-true}
-use Rattle.std.proofs.Math.IntN.{sub_ℕ}
-use Rattle.std.specs.Int.Signed.{lt_z}
-use Rattle.vocabulary.proofs.Test.{lt_or_le, same_test}
-use Rattle.graph.specs.Graph.{Graph, LinksInside, graph_of}
-use Rattle.graph.specs.Reach.{Free}
-use Rattle.graph.specs.Longest.{entry, rounds}
-use Rattle.graph.specs.Soonest.{soonest}
-use Rattle.graph.specs.Sub.{flip}
-use Rattle.graph.specs.Pass.{limit, at, Lined, Settled}
-use Rattle.graph.specs.Cycle.{Between}
+use Rattle.std.specs.Prelude.{◌≡◌, List, ℕ, ◌+◌, ◌*◌, ◌≤◌, ◌<◌, length}
+use Rattle.graph.specs.Pass.{limit, at}
 
 -- the lists hold each job's weight c and own number b, which are low enough
 pub record Weighted (w v : List ℕ) (n : ℕ) (b c : ℕ → ℕ) (B W : ℕ) : Type 0 where

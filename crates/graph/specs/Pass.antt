@@ -1,12 +1,9 @@
 -- Rounds in place over a list of links, and what they leave.
-use Rattle.std.specs.Prelude.{◌≡◌, refl, Bool, true, false, List, ◌⊎◌, ℕ, zero, suc, ◌+◌, ◌-◌, ◌*◌, ◌≤◌, ◌<◌, min, length, get_or, set}
-use Rattle.std.proofs.Common.{sym, ap, ◌∙◌, inl, inr, ⊎_elim, add-one, arith, length-set, get_or-set_same, get_or-set_other}
+use Rattle.std.specs.Prelude.{◌≡◌, Bool, false, List, ℕ, ◌+◌, ◌-◌, ◌≤◌, ◌<◌, min, length, get_or}
 use Rattle.vocabulary.specs.Test.{pick}
-use Rattle.vocabulary.proofs.Test.{clash, lt_or_le, eq_or_ne}
 use Rattle.graph.specs.Settle.{Over}
-use Rattle.graph.specs.Graph.{Graph, LinksInside, graph_of}
-use Rattle.graph.specs.Reach.{Free}
-use Rattle.graph.specs.Longest.{entry, rounds}
+use Rattle.graph.specs.Graph.{graph_of}
+use Rattle.graph.specs.Longest.{rounds}
 
 -- above every number of a set without a cycle
 abbrev pub limit : ℕ

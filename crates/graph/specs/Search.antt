@@ -1,11 +1,8 @@
 -- A search, breadth first, for a way from a job back to itself. It follows the links of a job by lists, and only through jobs that are not below the
 -- first: those lie on no cycle.
-use Rattle.std.specs.Prelude.{◌≡◌, refl, false, List, ◌⊎◌, ℕ, ◌+◌, ◌≤◌, ◌<◌, eqb, length, set}
-use Rattle.std.proofs.Common.{sym, ap, ◌∙◌, inl, inr, ⊎_elim, arith, length-set, get_or-set_same, get_or-set_other, eqb-true, eq-eqb, ne_eqb}
-use Rattle.vocabulary.proofs.Test.{clash, fails, lt_or_le, eq_or_ne}
+use Rattle.std.specs.Prelude.{◌≡◌, List, ◌⊎◌, ℕ, ◌+◌, ◌≤◌, ◌<◌, eqb, length}
 use Rattle.vocabulary.specs.Count.{count}
-use Rattle.vocabulary.proofs.Count.{count_le, count_pos}
-use Rattle.graph.specs.Graph.{Graph, LinksInside, graph_of, Way, one, more, loops}
+use Rattle.graph.specs.Graph.{Graph, Way}
 use Rattle.graph.specs.Pass.{at}
 
 -- ---- the links by the job that they come from: `heads` has 1 + the last link from each job, `nexts` 1 + the one before from the same job; 0 is none

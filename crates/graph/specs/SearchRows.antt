@@ -1,11 +1,7 @@
 -- The search over rows of jobs: column 0 has the heads of the lists of links, column 1 the marks, column 2 the queue.
-use Rattle.std.specs.Prelude.{◌≡◌, refl, Bool, true, false, List, [], ◌∷◌, ◌⊎◌, ℕ, ◌+◌, ◌-◌, ◌≤◌, ◌<◌, length, get_or, set}
-use Rattle.std.proofs.Common.{sym, ap, ◌∙◌, inl, inr, ⊎_elim, arith, length-set, get_or-set_same, get_or-set_other}
-use Rattle.std.proofs.Math.ListN.{get_or-eq_default}
-use Rattle.vocabulary.proofs.Test.{clash, lt_or_le, eq_or_ne}
+use Rattle.std.specs.Prelude.{◌≡◌, Bool, false, List, [], ◌∷◌, ℕ, ◌+◌, ◌≤◌, ◌<◌, length, get_or, set}
 use Rattle.vocabulary.specs.Least.{Seeking}
-use Rattle.vocabulary.proofs.Least.{seek, on, hit, miss}
-use Rattle.graph.specs.Graph.{Graph, graph_of, Way, loops, lowest}
+use Rattle.graph.specs.Graph.{Graph, graph_of, Way, loops}
 use Rattle.graph.specs.Column.{column}
 use Rattle.graph.specs.Pass.{at}
 use Rattle.graph.specs.Cycle.{Between}

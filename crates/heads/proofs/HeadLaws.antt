@@ -15,7 +15,6 @@ use Rattle.kinds.specs.declared.TaskSet.{TaskSet}
 use Rattle.kinds.specs.Limits.{holds, periods, no_key}
 use Rattle.kinds.specs.Tasks.{Tasks, tasks_of, task_at, view, pairs_in}
 use Rattle.kinds.specs.Cycle.{cycle, jobs, cycle_fits}
-use Rattle.kinds.specs.Links.{links}
 use Rattle.kinds.specs.Sound.{attributes_fit, task_fits, opening_fits, sound, PatternsAsked, PatternsTested}
 use Rattle.kinds.specs.RangeLaws.{holds_at}
 use Rattle.kinds.proofs.PatternWalk.{walk_from_lem, tested_yes}

@@ -5,7 +5,6 @@ use Rattle.std.proofs.Math.Path.{fun_ext}
 use Rattle.std.specs.Int.{◌∣◌}
 use Rattle.std.proofs.Math.Nat.{mod-mod, add-mod_right, mod-add-div', add-mul-mod_self_right, div-mul_cancel, le_of_dvd}
 use Rattle.vocabulary.proofs.Test.{both}
-use Rattle.vocabulary.specs.Count.{count}
 use Rattle.vocabulary.proofs.Count.{count_same}
 use Rattle.vocabulary.specs.Least.{some}
 use Rattle.vocabulary.proofs.Remainder.{since}

@@ -1,9 +1,8 @@
 -- Laws of the definitions in specs/Window.antt.
-use Rattle.std.specs.Prelude.{◌≡◌, refl, Bool, true, false, ◌&&◌, ◌⊎◌, ℕ, ◌+◌, ◌-◌, ◌*◌, ◌/◌, ◌%◌, ◌<◌, ◌≤◌, eqb, leb, ltb}
+use Rattle.std.specs.Prelude.{◌≡◌, refl, Bool, true, false, ◌&&◌, ◌⊎◌, ℕ, ◌+◌, ◌-◌, ◌*◌, ◌/◌, ◌%◌, ◌<◌, ◌≤◌, leb}
 use Rattle.std.proofs.Common.{sym, ap, ap₂, ◌∙◌, inl, inr, ⊎_elim, mod-eq_of_lt, div-add-mod', one-mul, arith, eq-eqb, eqb-true, ltb-true, lt-ltb, leb-true, le-leb}
 use Rattle.std.proofs.Math.Nat.{add-mod_right}
 use Rattle.std.proofs.lemmas.Bool.{lt-leb}
-use Rattle.vocabulary.specs.Test.{pick}
 use Rattle.vocabulary.proofs.Test.{fails, both, lt_or_le, and_true}
 use Rattle.vocabulary.specs.Count.{count}
 use Rattle.vocabulary.proofs.Count.{count_same, count_split, count_none}

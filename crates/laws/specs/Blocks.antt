@@ -1,16 +1,9 @@
 -- Which links of a cycle lie within its block of H: all but those that their second number carries past the last round of their pattern.
-use Rattle.std.specs.Prelude.{◌≡◌, true, false, ◌⊎◌, ltb}
-use Rattle.std.proofs.Common.{ap, inl, inr, le-div_iff_mul-le, one-mul, div-lt_iff_lt-mul, arith}
-use Prim.Native.Nat.{ℕ, ◌+◌, ◌-◌, ◌*◌, ◌/◌, ◌<◌, ◌≤◌, ◌∣◌}
-use Rattle.std.proofs.Math.Nat.{le_of_dvd, div-mul_cancel, div-eq_of_eq-mul_left, add-mul-div_right}
-use borrow.Author.Tests.{lt-ltb, le-ltb}
-use Rattle.vocabulary.proofs.Test.{and_false, lt_or_le, clash}
-use Rattle.kinds.specs.Editions.{edition_of}
-use Rattle.kinds.specs.Tasks.{Tasks, Patterns, Set, period, from_task, to_task, pair_count, pair_second}
-use Rattle.kinds.specs.Cycle.{cycle, jobs_of}
-use Rattle.kinds.specs.Links.{common, link_from, link_to, repeats, inner}
-use Rattle.kinds.specs.RangeLaws.{rounds_low}
-use Rattle.kinds.proofs.SoundFacts.{Sound}
+use Rattle.std.specs.Prelude.{◌≡◌}
+use Prim.Native.Nat.{ℕ, ◌+◌, ◌/◌, ◌<◌}
+use Rattle.kinds.specs.Tasks.{Tasks, Patterns, period, to_task, pair_second}
+use Rattle.kinds.specs.Cycle.{jobs_of}
+use Rattle.kinds.specs.Links.{common, link_to}
 
 -- how many jobs of a pattern's second task a round of the pattern has,
 abbrev pub round_jobs : Tasks → Patterns → ℕ → ℕ

@@ -24,7 +24,7 @@ use Rattle.graph.specs.JobRows.{starts, ends}
 use Rattle.graph.proofs.Listed.{below_sub}
 use Rattle.kinds.specs.declared.Counts.{Counts}
 use Rattle.kinds.specs.Tasks.{Tasks, Set, tasks_of, view}
-use Rattle.kinds.specs.Cycle.{cycle, jobs}
+use Rattle.kinds.specs.Cycle.{jobs}
 use Rattle.kinds.specs.Links.{links}
 use Rattle.kinds.proofs.SoundFacts.{Sound}
 use Rattle.network.specs.declared.Job.{Job}
@@ -33,7 +33,7 @@ use Rattle.network.specs.declared.Found.{Found}
 use Rattle.network.specs.Network.{network}
 use Rattle.network.specs.NetworkLaws.{jobs_of_network}
 use Rattle.network.specs.Times.{own_release, own_due, own_running, release_by, adjusted_release, adjusted_deadline}
-use Rattle.network.specs.Causes.{on_cycle, load, room, tight_by, tight, lowest_cycle, lowest_tight, releases_of, deadlines_of}
+use Rattle.network.specs.Causes.{on_cycle, tight_by, tight, lowest_cycle, lowest_tight, releases_of, deadlines_of}
 use Rattle.network.specs.FoundOf.{lowest_over, found_by, none_found, found_of, times_fit, releases_put, deadlines_put, SolvedFor}
 use Rattle.heads.specs.Tables.{PatternTables}
 use Rattle.reader.specs.Files.{taken_of, not_taken}

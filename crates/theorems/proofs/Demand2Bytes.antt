@@ -1,9 +1,8 @@
 -- Laws of the definitions in specs/Demand2Bytes.antt.
-use Rattle.std.specs.Prelude.{◌≡◌, refl, true, List, ◌↔◌, ℕ, ◌*◌, ◌<◌, ◌≤◌, length, get_or}
+use Rattle.std.specs.Prelude.{◌≡◌, refl, true, List, ◌↔◌, ℕ}
 use Rattle.std.proofs.Common.{sym, ap, ◌∙◌, subst, arith}
 use Rattle.vocabulary.proofs.Test.{took}
 use Rattle.kinds.specs.Tasks.{Set, view}
-use Rattle.kinds.specs.Cycle.{cycle}
 use Rattle.kinds.specs.Plans.{plan_of}
 use Rattle.kinds.specs.Valid.{Valid}
 use Rattle.reader.specs.declared.Taking.{Taking}

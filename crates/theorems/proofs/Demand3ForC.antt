@@ -8,11 +8,10 @@ use borrow.Author.Tests.{eqb-true, eqb-false, eq-eqb, lt-ltb}
 use Rattle.vocabulary.proofs.Test.{both, same_test}
 use Rattle.vocabulary.specs.Table.{table}
 use Rattle.vocabulary.specs.Bits.{has}
-use Rattle.kinds.specs.Tasks.{Set, view}
+use Rattle.kinds.specs.Tasks.{Set}
 use Rattle.kinds.specs.Cycle.{cycle}
 use Rattle.reader.specs.Files.{taken_of}
 use Rattle.judge.specs.declared.Verdict.TheVariants as verdict
-use Rattle.judge.specs.Answers as judgeAnswers
 use Rattle.judge.specs.Judgement.{verdict_of}
 use Rattle.dispatcher.specs.declared.Answer.{Answer}
 use Rattle.dispatcher.specs.Answers.{number_of}
@@ -22,15 +21,15 @@ use Rattle.dispatcher.specs.Bytes.{bytes_of}
 use Rattle.dispatcher.specs.ForC.{StartForC, start_for, StepForC, lengths_for_c, impossible_for_c, tick_in, answer_in, step_for}
 use Rattle.dispatcher.proofs.StepFacts.{taken_kept, lengths_right, number_refused, report_low}
 use Rattle.theorems.specs.Demand2.{accepted_iff}
-use Rattle.theorems.specs.Demand3Terms.{Fits, Caller, Rows, play_calls, taken_calls, Call, is_taken, is_right, right_calls, reports_of}
+use Rattle.theorems.specs.Demand3Terms.{Fits, Rows, play_calls, Call, is_taken, is_right, right_calls, reports_of}
 use Rattle.theorems.proofs.Demand3Plans.{accepted_fits, plan_playable}
 use Rattle.theorems.proofs.Demand3Calls.{follows}
 use Rattle.theorems.proofs.Demand3Calls.{Follows, right_allowed}
 use Rattle.theorems.proofs.Demand3.{bytes_keep}
 use Rattle.theorems.proofs.Demand3Bytes.{starts_in_bytes, taken_in_bytes, step_in_bytes, started_in_bytes, refused_in_bytes}
-use Rattle.theorems.specs.Demand3Rows.{row_gives, KeepsDemand3}
+use Rattle.theorems.specs.Demand3Rows.{row_gives}
 use Rattle.theorems.proofs.Demand3Rows.{run_keeps, MakesRun, same_ticks}
-use Rattle.theorems.specs.Demand3ForC.{set_in, steps_for_c, StartsForC, taken_for_c, reports_for_c, rows_for_c, bytes_left, PlaysForC}
+use Rattle.theorems.specs.Demand3ForC.{set_in, steps_for_c, StartsForC, taken_for_c, reports_for_c, rows_for_c, PlaysForC}
 
 -- ==== A step for C that is refused, on any bytes, leaves the state's bytes and the output as they are.
 pub refused_leaves : (tasks slots b : List ℕ) (c : Call) → (steps_for_c tasks slots).takes b c ≡ false

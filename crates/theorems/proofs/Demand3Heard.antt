@@ -12,8 +12,8 @@ use Rattle.kinds.specs.Plans.{plan_of}
 use Rattle.kinds.specs.Valid.{Valid, InSomeWindow}
 use Rattle.kinds.proofs.SoundFacts.{sound_facts}
 use Rattle.laws.proofs.Windows.{window_facts}
-use Rattle.dispatcher.specs.Steps.{OneTick, releases, heard, done_of, step_of, after_of}
-use Rattle.dispatcher.specs.Runs.{Play, play_of, tick_at, state_at, shown_at, gives, finishes}
+use Rattle.dispatcher.specs.Steps.{releases, heard, done_of, step_of, after_of}
+use Rattle.dispatcher.specs.Runs.{Play, play_of, state_at, shown_at, gives, finishes}
 use Rattle.dispatcher.proofs.StepFacts.{done_bit_lem, ran_bit}
 use Rattle.theorems.specs.Demand3Terms.{Playable, Fits}
 use Rattle.theorems.proofs.Demand3Plans.{plan_playable, plan_right}

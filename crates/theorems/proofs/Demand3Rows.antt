@@ -6,16 +6,14 @@ use mathlib.Core.List.{List, []}
 use Rattle.std.proofs.Math.ListN.{length, get_or-eq_default}
 use Rattle.vocabulary.proofs.Test.{clash, fails, both, decide, lt_or_le}
 use Rattle.vocabulary.proofs.Least.{some_none}
-use Rattle.vocabulary.specs.Count.{count}
 use Rattle.vocabulary.proofs.Count.{count_same, count_mono}
 use Rattle.vocabulary.specs.Table.{table}
 use Rattle.vocabulary.proofs.Table.{length_table, get_or_table}
 use Rattle.vocabulary.specs.Bits.{has}
-use Rattle.kinds.specs.Tasks.{Tasks, Set, running, deadline, from_task, to_task, pair_count}
+use Rattle.kinds.specs.Tasks.{Set, deadline, from_task, to_task}
 use Rattle.kinds.specs.Jobs.{release, due, in_window}
-use Rattle.kinds.specs.Links.{link_from, link_to}
-use Rattle.kinds.specs.Plans.{plan_of, slot, runs, ticks}
-use Rattle.kinds.specs.Valid.{Valid, TickOf, InSomeWindow}
+use Rattle.kinds.specs.Plans.{plan_of, runs, ticks}
+use Rattle.kinds.specs.Valid.{Valid}
 use Rattle.laws.proofs.Windows.{window_yes, window_facts}
 use Rattle.dispatcher.specs.declared.State.{State}
 use Rattle.dispatcher.specs.Steps.{row_of, stands_at, in_row}
@@ -26,7 +24,7 @@ use Rattle.theorems.proofs.Demand3Plans.{plan_playable, plan_right, planned_runs
 use Rattle.theorems.proofs.Demand3.{only_planned, as_planned, never_over, nobody_outside, in_order_lem, shows_slot, none_after, own_reports_so_far}
 use Rattle.theorems.proofs.Demand3.{refused_only, calls_are_run}
 use Rattle.theorems.proofs.Demand3Shown.{shown_once}
-use Rattle.theorems.specs.Demand3Rows.{row_gives, row_finishes, RowTick, ticks_in, NotHeardEarly, KeepsDemand3}
+use Rattle.theorems.specs.Demand3Rows.{row_gives, row_finishes, NotHeardEarly, KeepsDemand3}
 
 -- ---- the rows of a run
 module _ (y : Play) (reports : ℕ → ℕ) (n : ℕ) where

@@ -20,7 +20,7 @@ use Rattle.dispatcher.specs.Steps.{OneTick, releases, done_of, asleep, after_of,
 use Rattle.dispatcher.specs.Runs.{Play, tick_at, state_at, shown_at, gives, finishes}
 use Rattle.dispatcher.proofs.StepFacts.{done_bit_lem, ran_bit, row_shows}
 use Rattle.theorems.specs.Demand3Terms.{names, planned, Playable}
-use Rattle.theorems.specs.OneTask.{TwoMarks, stopped, marks_alone, gives_alone, ends_alone, released_at, told_at, alone, Sim}
+use Rattle.theorems.specs.OneTask.{stopped, marks_alone, gives_alone, ends_alone, released_at, told_at, alone, Sim}
 
 -- ---- laws of one task
 module _ (wanted released told : ℕ → Bool) where

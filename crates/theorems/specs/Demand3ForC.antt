@@ -1,29 +1,16 @@
 -- Demand 3 from the calls for C alone: a start that answers 0, and then any number of steps on the bytes of the state as each call leaves them.
-use Rattle.std.specs.Prelude.{◌≡◌, true, false, List, ℕ, suc, ◌+◌, ◌^◌, ◌≤◌, ◌<◌, length}
-use Rattle.std.proofs.Math.Path.{ap, fun_ext}
-use Rattle.std.proofs.Common.{ap₂, ◌∙◌}
-use native.Mathlib.Omega.{arith}
-use Rattle.std.proofs.Math.Dec.{eqb}
-use borrow.Author.Tests.{eqb-true, eqb-false, eq-eqb, lt-ltb}
-use Rattle.vocabulary.proofs.Test.{both, same_test}
+use Rattle.std.specs.Prelude.{◌≡◌, List, ℕ, length}
 use Rattle.vocabulary.specs.Table.{table}
-use Rattle.vocabulary.specs.Bits.{has}
 use Rattle.kinds.specs.Tasks.{Set, view}
-use Rattle.kinds.specs.Cycle.{cycle}
 use Rattle.reader.specs.Files.{taken_of}
 use Rattle.judge.specs.declared.Verdict.TheVariants as verdict
 use Rattle.judge.specs.Answers as judgeAnswers
 use Rattle.judge.specs.Judgement.{verdict_of}
-use Rattle.dispatcher.specs.declared.Answer.{Answer}
-use Rattle.dispatcher.specs.Answers.{number_of}
-use Rattle.dispatcher.specs.Refusals.{first_state, lengths_fit}
-use Rattle.dispatcher.specs.Runs.{Play, play_of, state_at, shown_at}
+use Rattle.dispatcher.specs.Runs.{play_of, state_at, shown_at}
 use Rattle.dispatcher.specs.Bytes.{bytes_of}
-use Rattle.dispatcher.specs.ForC.{StartForC, start_for, StepForC, lengths_for_c, impossible_for_c, tick_in, answer_in, step_for}
-use Rattle.dispatcher.proofs.StepFacts.{taken_kept, lengths_right, number_refused, report_low}
-use Rattle.theorems.specs.Demand2.{accepted_iff}
-use Rattle.theorems.specs.Demand3Terms.{Fits, Caller, Rows, play_calls, taken_calls, Call, is_taken, is_right, right_calls, reports_of}
-use Rattle.theorems.specs.Demand3Rows.{row_gives, KeepsDemand3}
+use Rattle.dispatcher.specs.ForC.{start_for, step_for}
+use Rattle.theorems.specs.Demand3Terms.{Caller, play_calls, taken_calls, Call, is_taken, right_calls, reports_of}
+use Rattle.theorems.specs.Demand3Rows.{KeepsDemand3}
 
 -- the set that the bytes of tasks stand for
 abbrev pub set_in : List ℕ → Set

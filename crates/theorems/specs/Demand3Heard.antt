@@ -1,22 +1,10 @@
 -- Demand 3: what it means that a job is heard to finish, from what a step does.
-use Rattle.std.specs.Prelude.{◌≡◌, refl, Bool, false, ◌&&◌, ◌||◌, List, ◌⊎◌, ℕ, suc, ◌+◌, ◌*◌, ◌<◌, ◌≤◌}
-use Rattle.std.proofs.Math.Path.{sym, ap}
-use Rattle.std.proofs.Common.{◌∙◌, inl, inr, le_refl, mul-le-mul, arith}
-use Rattle.std.proofs.Math.Bool.{true, not}
-use Rattle.vocabulary.proofs.Test.{both, lt_or_le}
+use Rattle.std.specs.Prelude.{◌≡◌, false, ℕ, suc, ◌<◌, ◌≤◌}
+use Rattle.std.proofs.Math.Bool.{true}
 use Rattle.vocabulary.specs.Bits.{has}
-use Rattle.vocabulary.proofs.Bits.{has_none}
-use Rattle.kinds.specs.Tasks.{Tasks, Set, period, deadline}
 use Rattle.kinds.specs.Jobs.{release, in_window}
-use Rattle.kinds.specs.Plans.{plan_of}
-use Rattle.kinds.specs.Valid.{Valid, InSomeWindow}
-use Rattle.kinds.proofs.SoundFacts.{sound_facts}
-use Rattle.laws.proofs.Windows.{window_facts}
-use Rattle.dispatcher.specs.Steps.{OneTick, releases, heard, done_of, step_of, after_of}
-use Rattle.dispatcher.specs.Runs.{Play, play_of, tick_at, state_at, shown_at, gives, finishes}
-use Rattle.dispatcher.proofs.StepFacts.{done_bit_lem, ran_bit}
-use Rattle.theorems.specs.Demand3Terms.{Playable, Fits}
-use Rattle.theorems.specs.OneTask.{released_at}
+use Rattle.dispatcher.specs.Steps.{OneTick, done_of}
+use Rattle.dispatcher.specs.Runs.{Play, tick_at, state_at, gives}
 
 -- the tick that step n comes to
 abbrev pub tick_of_step : Play → (ℕ → ℕ) → ℕ → OneTick

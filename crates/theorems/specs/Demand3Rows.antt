@@ -1,27 +1,15 @@
 -- Demand 3 over what an executive has in its hands: the rows that its calls left, and the reports of the calls that were taken.
-use Rattle.std.specs.Prelude.{◌≡◌, Bool, true, false, ◌&&◌, ◌⊎◌, ℕ, suc, ◌+◌, ◌≤◌, ◌<◌, get_or}
-use Rattle.std.proofs.Math.Path.{sym, ap}
-use Rattle.std.proofs.Common.{◌∙◌, inl, inr, arith}
+use Rattle.std.specs.Prelude.{◌≡◌, Bool, true, false, ◌&&◌, ◌⊎◌, ℕ, suc, ◌≤◌, ◌<◌, get_or}
 use mathlib.Core.List.{List, []}
-use Rattle.std.proofs.Math.ListN.{length, get_or-eq_default}
-use Rattle.vocabulary.proofs.Test.{clash, fails, both, decide, lt_or_le}
-use Rattle.vocabulary.proofs.Least.{some_none}
+use Rattle.std.proofs.Math.ListN.{length}
 use Rattle.vocabulary.specs.Count.{count}
-use Rattle.vocabulary.proofs.Count.{count_same, count_mono}
-use Rattle.vocabulary.specs.Table.{table}
-use Rattle.vocabulary.proofs.Table.{length_table, get_or_table}
 use Rattle.vocabulary.specs.Bits.{has}
 use Rattle.kinds.specs.Tasks.{Tasks, Set, running, deadline, from_task, to_task, pair_count}
 use Rattle.kinds.specs.Jobs.{release, due, in_window}
 use Rattle.kinds.specs.Links.{link_from, link_to}
-use Rattle.kinds.specs.Plans.{plan_of, slot, runs, ticks}
-use Rattle.kinds.specs.Valid.{Valid, TickOf, InSomeWindow}
-use Rattle.laws.proofs.Windows.{window_yes, window_facts}
-use Rattle.dispatcher.specs.declared.State.{State}
-use Rattle.dispatcher.specs.Steps.{row_of, stands_at, in_row}
-use Rattle.dispatcher.specs.Refusals.{first_state}
-use Rattle.dispatcher.specs.Runs.{Play, play_of, shown_at, gives, finishes}
-use Rattle.theorems.specs.Demand3Terms.{Playable, Right, Fits, Caller, Rows, play_calls, taken_calls, Call, step_calls, reports_of}
+use Rattle.kinds.specs.Plans.{plan_of, slot, runs}
+use Rattle.kinds.specs.Valid.{TickOf, InSomeWindow}
+use Rattle.dispatcher.specs.Steps.{stands_at, in_row}
 
 -- row t shows task i
 unfoldable pub row_gives : List (List ℕ) → ℕ → ℕ → Bool

@@ -9,7 +9,7 @@ use native.Mathlib.Omega.{arith}
 use Rattle.std.specs.Int.Signed.{lt_z}
 use borrow.Author.Tests.{lt-ltb, le-ltb, ltb-true, ltb-false}
 use Rattle.vocabulary.proofs.Test.{clash, lt_or_le}
-use Rattle.vocabulary.specs.Least.{least, some}
+use Rattle.vocabulary.specs.Least.{some}
 use Rattle.vocabulary.proofs.Least.{least_is, some_not, none}
 use Rattle.graph.specs.Graph.{Graph, LinksInside}
 use Rattle.graph.specs.Reach.{Free}

@@ -3,7 +3,6 @@ use Rattle.std.specs.Prelude.{◌≡◌, ◌&&◌, ◌↔◌, List, ℕ, ◌+◌
 use Rattle.std.proofs.Common.{sym, ap₂, ◌∙◌, arith}
 use Rattle.vocabulary.proofs.Least.{some_same}
 use Rattle.kinds.specs.Tasks.{Tasks, Set, deadline, from_task, to_task}
-use Rattle.kinds.specs.Cycle.{cycle}
 use Rattle.kinds.specs.Jobs.{release}
 use Rattle.kinds.specs.Links.{link_from, link_to, repeats}
 use Rattle.kinds.specs.Plans.{Plan, plan_of}

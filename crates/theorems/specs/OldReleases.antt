@@ -1,5 +1,5 @@
 -- The rule for adjusted releases as it was before request 105, and that the screen's number is the same under both. Nothing else uses the old rule.
-use Rattle.std.specs.Prelude.{◌≡◌, refl, Bool, true, false, not, List, [], ◌∷◌, ◌↔◌, ℕ, ◌≤◌, ◌<◌}
+use Rattle.std.specs.Prelude.{◌≡◌, refl, Bool, true, false, List, [], ◌∷◌, ◌↔◌, ℕ, ◌≤◌, ◌<◌}
 use Rattle.std.proofs.Common.{sym, ◌∙◌, arith, ltb-false}
 use Rattle.std.proofs.lemmas.Bool.{not-false}
 use Rattle.vocabulary.specs.Test.{pick}

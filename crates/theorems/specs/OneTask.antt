@@ -1,25 +1,11 @@
 -- One task alone, from its planned ticks, its releases and its own report bits; and that the dispatcher does with each task what the task alone would have.
-use Rattle.std.specs.Prelude.{◌≡◌, Bool, ◌&&◌, ◌||◌, not, ◌⊎◌, ltb, leb}
-use Rattle.std.proofs.Math.Path.{refl, sym, ap}
-use Rattle.std.proofs.Common.{◌∙◌, inl, inr, add-zero, add-suc, suc-mul, mod-eq_of_lt, mod-lt, lt_of_lt_of_le, add-one}
-use Rattle.std.proofs.Math.Bool.{true, false}
-use Prim.Native.Nat.{ℕ, zero, suc, ◌+◌, ◌-◌, ◌%◌, ◌<◌, ◌≤◌}
-use Rattle.std.proofs.Math.Nat.{suc-mod, mod_self, zero-mod, le_of_dvd}
-use native.Mathlib.Omega.{arith}
-use borrow.Author.Tests.{lt-ltb, le-ltb, le-leb, lt-leb, eq-eqb, ne_eqb}
-use Rattle.vocabulary.specs.Test.{pick}
-use Rattle.vocabulary.proofs.Test.{lt_or_le, both, and_true, and_false, and_swap, not_or}
-use Rattle.vocabulary.specs.Least.{some}
+use Rattle.std.specs.Prelude.{◌≡◌, Bool, ◌&&◌, ◌||◌, not, ltb}
+use Rattle.std.proofs.Math.Bool.{false}
+use Prim.Native.Nat.{ℕ, zero, suc, ◌%◌}
 use Rattle.vocabulary.specs.Bits.{has}
-use Rattle.vocabulary.proofs.Bits.{has_none}
-use Rattle.vocabulary.proofs.Remainder.{since}
-use Rattle.kinds.specs.Tasks.{Tasks, period, offset}
-use Rattle.kinds.specs.Jobs.{release}
-use Rattle.kinds.specs.Plans.{awake}
-use Rattle.dispatcher.specs.Steps.{OneTick, releases, done_of, asleep, after_of, step_of}
-use Rattle.dispatcher.specs.Runs.{Play, tick_at, state_at, shown_at, gives, finishes}
-use Rattle.dispatcher.proofs.StepFacts.{done_bit_lem, ran_bit, row_shows}
-use Rattle.theorems.specs.Demand3Terms.{names, planned, Playable}
+use Rattle.dispatcher.specs.Steps.{releases}
+use Rattle.dispatcher.specs.Runs.{Play, state_at}
+use Rattle.theorems.specs.Demand3Terms.{planned}
 
 -- the two marks of the task
 pub record TwoMarks : Type 0 where

@@ -13,7 +13,7 @@ use Rattle.vocabulary.proofs.First.{first_same}
 use Rattle.vocabulary.specs.Least.{least, some}
 use Rattle.vocabulary.proofs.Least.{some_at, some_not, some_same, least_same}
 use Rattle.kinds.specs.Tasks.{Tasks, Patterns, Set, period, offset, deadline, from_task, to_task, pair_count}
-use Rattle.kinds.specs.Cycle.{cycle, jobs_of}
+use Rattle.kinds.specs.Cycle.{jobs_of}
 use Rattle.kinds.specs.Jobs.{release}
 use Rattle.kinds.specs.Links.{link_from, link_to, repeats}
 use Rattle.kinds.specs.Plans.{Plan, plan_of, slot, ticks, first_tick, last_tick}

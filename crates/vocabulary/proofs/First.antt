@@ -1,14 +1,14 @@
 -- Laws of the definitions in specs/First.antt.
-use Rattle.std.specs.Prelude.{◌≡◌, Bool, not, ◌&&◌, ◌||◌, ◌⊎◌, ◌↔◌, ℕ, zero, suc, ◌<◌, ◌≤◌}
+use Rattle.std.specs.Prelude.{◌≡◌, Bool, not, ◌&&◌, ◌||◌, ◌⊎◌, ℕ, zero, suc, ◌<◌, ◌≤◌}
 use Rattle.std.proofs.Math.Path.{refl}
 use Rattle.std.proofs.Common.{sym, ap, ◌∙◌, inl, inr, arith}
 use Rattle.std.proofs.Math.Bool.{true, false}
-use mathlib.Core.List.{List, [], ◌∷◌, map}
+use mathlib.Core.List.{List, [], ◌∷◌}
 use Rattle.std.proofs.Math.Dec.{eqb}
 use borrow.Author.Tests.{eq-eqb, eqb-true}
 use Rattle.vocabulary.specs.Test.{pick}
 use Rattle.vocabulary.proofs.Test.{clash, lt_or_le}
-use Rattle.vocabulary.specs.First.{Rule, rule, first_of, from, ends_at, answer_at, rank_of, First, earlier, numbers_of, Each, ◌also◌, Told, Claim, claim, pick_type, KeptBy, AllKept}
+use Rattle.vocabulary.specs.First.{Rule, first_of, from, ends_at, answer_at, rank_of, First, earlier, numbers_of, Each, Told, Claim, pick_type, KeptBy, AllKept}
 
 -- Two chains tell the same, of which `say` tells a part or all, where each rule is broken in both or in none: its answer counts only where it is, and what
 -- stands behind it where it is not.

@@ -7,8 +7,7 @@ use Rattle.std.proofs.Math.Logic.{⊎_elim}
 use Prim.Native.Nat.{ℕ, zero, suc, ◌+◌, ◌≤◌, ◌<◌}
 use native.Mathlib.Omega.{arith}
 use Rattle.std.proofs.Math.ListN.{length}
-use Rattle.vocabulary.specs.Test.{pick}
-use Rattle.vocabulary.specs.Table.{table, Filling, is, join, gather}
+use Rattle.vocabulary.specs.Table.{table, Filling, is, gather}
 
 module _ {A : Type 0} where
   pub length_table : (f : ℕ → A) (n : ℕ) → length (table f n) ≡ n

@@ -1,6 +1,5 @@
 -- How many ticks of a window pass a test.
-use Rattle.std.specs.Prelude.{◌≡◌, refl, Bool, true, false, ◌⊎◌, ℕ, zero, suc, ◌+◌, ◌-◌, ◌≤◌, ◌<◌, min}
-use Rattle.std.proofs.Common.{sym, ap, ap₂, ◌∙◌, inl, inr, ⊎_elim, add-zero, add-suc, add_assoc, eq-or-lt_of_le, le_of_suc-le-suc, add-one, arith}
+use Rattle.std.specs.Prelude.{◌≡◌, Bool, true, ℕ, zero, suc, ◌+◌, ◌≤◌}
 use Rattle.vocabulary.specs.Test.{bit}
 
 -- how many of the n ticks from a on pass f

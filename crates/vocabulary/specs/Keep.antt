@@ -1,7 +1,5 @@
 -- Lists that a walk writes from the front on: what stands there stays, and what is not written yet is 0.
-use Rattle.std.specs.Prelude.{◌≡◌, refl, List, ℕ, ◌+◌, ◌≤◌, ◌<◌, length, get_or, set, replicate}
-use Rattle.std.proofs.Common.{◌∙◌, arith, length-set, get_or-set_same, get_or-set_other}
-use Rattle.std.proofs.lemmas.List.{length-replicate}
+use Rattle.std.specs.Prelude.{◌≡◌, List, ℕ, ◌≤◌, ◌<◌, length, get_or}
 
 -- ys is as long as xs, and has its entries below i
 pub record SamePrefix (xs ys : List ℕ) (i : ℕ) : Type 0 where

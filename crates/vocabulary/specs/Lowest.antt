@@ -1,8 +1,7 @@
 -- The lowest place at which something holds, where a place is one, two or three numbers that are compared in their order; and that nested searches
 -- for the least number find it.
-use Rattle.std.specs.Prelude.{◌≡◌, Bool, true, false, ◌↔◌, ℕ, ◌≤◌, ◌<◌}
-use Rattle.std.proofs.Common.{sym, ◌∙◌, ⊎_elim, arith}
-use Rattle.vocabulary.specs.Least.{least, some}
+use Rattle.std.specs.Prelude.{◌≡◌, Bool, true, ℕ, ◌<◌}
+use Rattle.vocabulary.specs.Least.{some}
 
 -- a, below n, is the lowest number at which P holds
 pub record Lowest (P : ℕ → Type 0) (n a : ℕ) : Type 0 where

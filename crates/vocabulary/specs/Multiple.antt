@@ -1,8 +1,6 @@
 -- The least common multiple of two numbers and of n numbers. It is found by trying multiples; its laws say what it means.
-use Rattle.std.specs.Prelude.{Bool, true, ◌≡◌, refl, ℕ, zero, suc, ◌+◌, ◌-◌, ◌*◌, ◌/◌, ◌%◌, ◌≤◌, ◌<◌, eqb}
-use Rattle.std.proofs.Common.{ap₂, subst, ⊎_elim, le-div_iff_mul-le, mul-le-mul_left, mul-pos, mod-lt, one-mul, eq-zero-or-pos, add-zero, add-suc, le_refl, le_trans, le_antisymm, eq-or-lt_of_le, le_of_suc-le-suc, add-one, arith, eq-eqb, eqb-true}
+use Rattle.std.specs.Prelude.{Bool, ℕ, zero, suc, ◌+◌, ◌*◌, ◌%◌, ◌<◌, eqb}
 use Rattle.std.specs.Int.{◌∣◌}
-use Rattle.std.proofs.Math.Nat.{dvd_refl, dvd-mul_right, dvd-mul_left, dvd_trans, dvd_of_mod-eq-zero, mod-eq-zero_of_dvd, mul-div_cancel', le_of_dvd, pos_of_dvd_of_pos, mul-mod_left, dvd-mod_iff, one-dvd}
 use Rattle.vocabulary.specs.Least.{least}
 
 -- a · (k + 1) is a multiple of b

@@ -1,6 +1,5 @@
 -- A loop that writes x, x + d, x + 2d, .. into a list from a place on.
-use Rattle.std.specs.Prelude.{◌≡◌, refl, List, ◌⊎◌, ℕ, suc, ◌+◌, ◌*◌, ◌≤◌, ◌<◌, length, get_or, set}
-use Rattle.std.proofs.Common.{sym, ap, ◌∙◌, inl, inr, mul-le-mul, le_refl, arith, length-set, get_or-set_same, get_or-set_other}
+use Rattle.std.specs.Prelude.{◌≡◌, List, ℕ, ◌+◌, ◌*◌, ◌≤◌, ◌<◌, length, get_or}
 
 -- c of them stand from place e on, and what stood before e stands
 pub record StepsPut (e c x d : ℕ) (v v' : List ℕ) : Type 0 where

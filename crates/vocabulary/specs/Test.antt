@@ -1,7 +1,5 @@
 -- Tests are Bools: that a test passes is the proposition `f x ≡ true`. Here is how tests meet propositions.
-use Rattle.std.specs.Prelude.{◌≡◌, refl, Bool, true, false, not, ◌&&◌, ◌||◌, ◌⊎◌, ℕ, ◌≤◌, ◌<◌, ltb, eqb}
-use Rattle.std.proofs.Common.{sym, ◌∙◌, true≢false, inl, inr, ⊎_elim, lit≤, ltb-true, ltb-false, eqb-true}
-use Rattle.std.proofs.lemmas.Bool.{eqb-false}
+use Rattle.std.specs.Prelude.{Bool, true, false, ℕ}
 
 -- The first where the test passes, else the second.
 abbrev pub pick : {A : Type 0} → Bool → A → A → A

@@ -1,6 +1,5 @@
 -- Sums of n numbers.
-use Rattle.std.specs.Prelude.{◌≡◌, refl, ℕ, zero, suc, ◌+◌, ◌-◌, ◌≤◌, ◌<◌}
-use Rattle.std.proofs.Common.{ap₂, add-zero, add-suc, add-one, arith}
+use Rattle.std.specs.Prelude.{ℕ, zero, suc, ◌+◌}
 
 -- f 0 + f 1 + .. + f (n - 1)
 unfoldable pub total : (ℕ → ℕ) → ℕ → ℕ

@@ -1,6 +1,5 @@
 use mathlib.Core.List.{[], ◌∷◌}
 use Rattle.evidence.proofs.Places.{at_two, past_two}
-use borrow.Author.Rules.{rules}
 use Rattle.evidence.proofs.five_of.Goals as goal
 
 pub returns-then-which-lt2 : goal.returns-then-which-lt2

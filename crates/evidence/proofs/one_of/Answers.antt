@@ -1,7 +1,6 @@
 use mathlib.Core.Path.{refl}
 use mathlib.Core.List.{[]}
 use Rattle.evidence.proofs.Places.{at_next}
-use borrow.Author.Rules.{rules}
 use Rattle.evidence.proofs.one_of.Goals as goal
 
 pub returns : goal.returns

@@ -1,6 +1,5 @@
 use mathlib.Core.List.{[], ◌∷◌}
 use Rattle.evidence.proofs.Places.{at_next}
-use borrow.Author.Rules.{rules}
 use Rattle.evidence.proofs.two_of.Goals as goal
 
 pub returns : goal.returns

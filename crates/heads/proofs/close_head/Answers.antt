@@ -1,6 +1,5 @@
 use borrow.Author.Tests.{le-leb, lt-leb}
 use Rattle.heads.specs.LoopSteps.{closing}
-use borrow.Author.Rules.{rules}
 use Rattle.heads.proofs.close_head.Goals as goal
 
 pub returns-then-links-gt-MOST_LINKS : goal.returns-then-links-gt-MOST_LINKS

@@ -2,7 +2,6 @@ use Rattle.heads.specs.Tables.{count_from}
 use Rattle.numbers.specs.Numbers.{and_then}
 use Rattle.vocabulary.proofs.Test.{by_true, by_false}
 use borrow.Author.Tests.{le-leb, lt-leb}
-use borrow.Author.Rules.{rules}
 use Rattle.heads.proofs.read_count.Goals as goal
 
 pub returns-then-used-n-le-MOST_PAIRS : goal.returns-then-used-n-le-MOST_PAIRS

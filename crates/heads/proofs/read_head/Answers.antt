@@ -1,7 +1,6 @@
 use Rattle.heads.proofs.Bounds.{opening_low, middle_low}
 use Rattle.heads.proofs.ReadIsSound.{periods_fit_lem}
 use Rattle.heads.specs.LoopSteps.{by_opening, by_tasks, by_middle, by_patterns}
-use borrow.Author.Rules.{rules}
 use Rattle.heads.proofs.read_head.Goals as goal
 
 pub read_tasks-requires : goal.read_tasks-requires

@@ -4,7 +4,6 @@ use Rattle.heads.specs.Tables.{heading_at}
 use Rattle.numbers.specs.Numbers.{and_then}
 use Rattle.vocabulary.proofs.Test.{by_true}
 use borrow.Author.Tests.{eq-eqb}
-use borrow.Author.Rules.{rules}
 use Rattle.heads.proofs.read_heading.Goals as goal
 
 pub returns-then-x-y : goal.returns-then-x-y

@@ -1,7 +1,6 @@
 use Rattle.numbers.specs.Numbers.{and_then}
 use Rattle.heads.specs.Heads.{middle_from}
 use Rattle.heads.proofs.Bounds.{cycle_broken, cycle_kept}
-use borrow.Author.Rules.{rules}
 use Rattle.heads.proofs.read_middle.Goals as goal
 
 pub returns-then-cycle-eq0 : goal.returns-then-cycle-eq0

@@ -1,6 +1,5 @@
 use Rattle.numbers.specs.Numbers.{and_then}
 use Rattle.heads.specs.Heads.{opening_of}
-use borrow.Author.Rules.{rules}
 use Rattle.heads.proofs.read_opening.Goals as goal
 
 pub returns-in-Refused : goal.returns-in-Refused

@@ -1,9 +1,7 @@
-use mathlib.Core.Path.{◌≡◌, sym, ◌∙◌}
-use Prim.Native.Nat.{◌≤◌, ◌-◌}
+use mathlib.Core.Path.{sym, ◌∙◌}
 use native.Mathlib.Nat.{add-sub_cancel_left}
 use native.Mathlib.Omega.{arith}
-use Rattle.kinds.specs.Limits.{no_key}
-use Rattle.heads.specs.Tables.{pairs_from, on_two}
+use Rattle.heads.specs.Tables.{on_two}
 use Rattle.heads.proofs.ReadInRange.{two_bounds}
 use Rattle.heads.specs.LoopSteps.{pairs_step, pairs_none}
 use borrow.Author.Rules.{rules}

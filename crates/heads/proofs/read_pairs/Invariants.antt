@@ -1,12 +1,7 @@
-use mathlib.Core.Path.{◌≡◌, sym, ◌∙◌}
+use mathlib.Core.Path.{◌≡◌}
 use Prim.Native.Nat.{◌≤◌, ◌-◌}
-use native.Mathlib.Nat.{add-sub_cancel_left}
-use native.Mathlib.Omega.{arith}
 use Rattle.kinds.specs.Limits.{no_key}
-use Rattle.heads.specs.Tables.{pairs_from, on_two}
-use Rattle.heads.proofs.ReadInRange.{two_bounds}
-use Rattle.heads.specs.LoopSteps.{pairs_step, pairs_none}
-use borrow.Author.Rules.{rules}
+use Rattle.heads.specs.Tables.{pairs_from}
 use Rattle.heads.proofs.read_pairs.Given as goal
 
 abbrev pub invariant-loop-j : goal.invariant-loop-j

@@ -2,7 +2,6 @@ use native.Mathlib.Omega.{arith}
 use Rattle.heads.specs.LoopSteps.{pattern_refused, pattern_stop, pattern_on}
 use Rattle.kinds.specs.RangeLaws.{spans_low}
 use Rattle.heads.proofs.Bounds.{heading_bounds, links_low}
-use borrow.Author.Rules.{rules}
 use Rattle.heads.proofs.read_pattern.Goals as goal
 
 pub bounds-attributes-x : goal.bounds-attributes-x

@@ -1,10 +1,6 @@
-use mathlib.Core.Path.{◌≡◌, sym, ◌∙◌}
-use Prim.Native.Nat.{◌≤◌, ◌-◌, ◌*◌}
+use mathlib.Core.Path.{sym, ◌∙◌}
 use native.Mathlib.Nat.{sub-zero}
 use native.Mathlib.Omega.{arith}
-use Rattle.kinds.specs.Tasks.{tasks_of}
-use Rattle.heads.specs.Tables.{pattern_tables, patterns_from}
-use Rattle.heads.specs.Heads.{patterns_after}
 use Rattle.heads.specs.LoopSteps.{patterns_stop, patterns_turn, patterns_none}
 use Rattle.heads.proofs.Bounds.{pattern_low}
 use borrow.Author.Rules.{rules}

@@ -2,7 +2,6 @@ use native.Mathlib.Omega.{arith}
 use Rattle.numbers.specs.Numbers.{and_then}
 use Rattle.heads.specs.Tables.{task_from}
 use Rattle.heads.proofs.ReadInRange.{got_bounds}
-use borrow.Author.Rules.{rules}
 use Rattle.heads.proofs.read_task.Goals as goal
 
 pub overflow_add-t : goal.overflow_add-t

@@ -1,8 +1,7 @@
-use mathlib.Core.Path.{◌≡◌, sym, ◌∙◌}
-use Prim.Native.Nat.{◌≤◌, ◌-◌}
+use mathlib.Core.Path.{sym, ◌∙◌}
 use native.Mathlib.Nat.{sub-zero}
 use native.Mathlib.Omega.{arith}
-use Rattle.heads.specs.Tables.{tasks_from, on_task}
+use Rattle.heads.specs.Tables.{on_task}
 use Rattle.heads.specs.LoopSteps.{tasks_step, tasks_none}
 use borrow.Author.Rules.{rules}
 use Rattle.heads.proofs.read_tasks.Goals as goal

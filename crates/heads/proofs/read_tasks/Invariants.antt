@@ -1,10 +1,6 @@
-use mathlib.Core.Path.{◌≡◌, sym, ◌∙◌}
+use mathlib.Core.Path.{◌≡◌}
 use Prim.Native.Nat.{◌≤◌, ◌-◌}
-use native.Mathlib.Nat.{sub-zero}
-use native.Mathlib.Omega.{arith}
-use Rattle.heads.specs.Tables.{tasks_from, on_task}
-use Rattle.heads.specs.LoopSteps.{tasks_step, tasks_none}
-use borrow.Author.Rules.{rules}
+use Rattle.heads.specs.Tables.{tasks_from}
 use Rattle.heads.proofs.read_tasks.Given as goal
 
 abbrev pub invariant-loop-i : goal.invariant-loop-i

@@ -1,6 +1,5 @@
 use Rattle.numbers.specs.Numbers.{and_then}
 use Rattle.heads.specs.Tables.{times_from}
-use borrow.Author.Rules.{rules}
 use Rattle.heads.proofs.read_times.Goals as goal
 
 pub returns-in-Refused : goal.returns-in-Refused

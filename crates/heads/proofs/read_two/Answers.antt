@@ -1,6 +1,5 @@
 use Rattle.heads.specs.Tables.{two_at}
 use Rattle.numbers.specs.Numbers.{and_then}
-use borrow.Author.Rules.{rules}
 use Rattle.heads.proofs.read_two.Goals as goal
 
 pub returns-in-Refused : goal.returns-in-Refused

@@ -1,6 +1,5 @@
 use Rattle.graph.proofs.SearchRows.{begun, begin_room}
 use Rattle.graph.proofs.SearchRows.{begun}
-use borrow.Author.Rules.{rules}
 use Rattle.loops.proofs.begin_search.Goals as goal
 
 pub slice_copy_out-q : goal.slice_copy_out-q

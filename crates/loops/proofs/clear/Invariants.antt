@@ -1,10 +1,6 @@
-use Rattle.loops.proofs.LentLaws.{rows_cleared}
 use Rattle.graph.specs.SearchRows.{Clearing}
-use Rattle.graph.proofs.SearchRows.{clear_from, clear_on}
 use Prim.Native.Nat.{◌-◌}
-use native.Mathlib.Omega.{arith}
 use lib.ListN.{length}
-use borrow.Author.Rules.{rules}
 use Rattle.loops.proofs.clear.Given as goal
 
 abbrev pub invariant-loop-i : goal.invariant-loop-i

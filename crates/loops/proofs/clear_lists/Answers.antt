@@ -1,11 +1,7 @@
-use lib.ListN.{length}
 use native.Mathlib.Omega.{arith}
-use Prim.Native.Nat.{◌-◌}
 use mathlib.Core.Path.{refl}
-use Rattle.vocabulary.specs.Table.{Filling}
 use Rattle.vocabulary.proofs.Table.{fill_from, fill_on}
-use Rattle.loops.proofs.LentLaws.{Nought, lists_cleared}
-use borrow.Author.Rules.{rules}
+use Rattle.loops.proofs.LentLaws.{lists_cleared}
 use Rattle.loops.proofs.clear_lists.Goals as goal
 
 pub loop-k-init : goal.loop-k-init

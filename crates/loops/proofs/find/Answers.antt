@@ -1,7 +1,5 @@
 use mathlib.Core.Path.{refl}
-use Rattle.vocabulary.proofs.StopsAndZeros.{stopped, passed}
 use Rattle.loops.proofs.LentLaws.{no_room, not_linked, lowest_in_lem, search_asked}
-use borrow.Author.Rules.{rules}
 use Rattle.std.proofs.Common.{sym, ◌∙◌}
 use Rattle.loops.proofs.find.Goals as goal
 

@@ -1,6 +1,5 @@
 use mathlib.Core.Path.{refl}
 use Rattle.loops.proofs.LentLaws.{other_length, many_links, jobs_decide}
-use borrow.Author.Rules.{rules}
 use Rattle.loops.proofs.has_room.Goals as goal
 
 pub returns-then-next-links : goal.returns-then-next-links

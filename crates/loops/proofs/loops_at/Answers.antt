@@ -1,5 +1,4 @@
 use Rattle.graph.proofs.SearchRows.{probe_asked, probed_back}
-use borrow.Author.Rules.{rules}
 use Rattle.loops.proofs.loops_at.Goals as goal
 
 pub begin_search-requires : goal.begin_search-requires

@@ -1,6 +1,5 @@
 use Rattle.loops.specs.LentLinks.{no_lists, no_rows}
 use mathlib.Core.Path.{◌∙◌, ap}
-use borrow.Author.Rules.{rules}
 use Rattle.loops.proofs.lowest_on_cycle.Goals as goal
 
 pub returns : goal.returns

@@ -1,6 +1,5 @@
 use Rattle.loops.proofs.LentLaws.{cleared}
 use Rattle.graph.proofs.SearchRows.{thread_asked, seek_asked, sought}
-use borrow.Author.Rules.{rules}
 use Rattle.loops.proofs.seek_lowest.Goals as goal
 
 pub thread-requires : goal.thread-requires

@@ -1,9 +1,5 @@
-use Rattle.graph.specs.SearchRows.{ThreadMade}
 use Rattle.graph.proofs.SearchRows.{made_from, thread_place, thread_low, made_on, made_end}
 use native.Mathlib.Omega.{arith}
-use Prim.Native.Nat.{◌-◌}
-use lib.ListN.{length}
-use borrow.Author.Rules.{rules}
 use Rattle.loops.proofs.thread.Goals as goal
 
 pub loop-k-init : goal.loop-k-init

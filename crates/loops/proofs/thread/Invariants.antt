@@ -1,9 +1,6 @@
 use Rattle.graph.specs.SearchRows.{ThreadMade}
-use Rattle.graph.proofs.SearchRows.{made_from, thread_place, thread_low, made_on, made_end}
-use native.Mathlib.Omega.{arith}
 use Prim.Native.Nat.{◌-◌}
 use lib.ListN.{length}
-use borrow.Author.Rules.{rules}
 use Rattle.loops.proofs.thread.Given as goal
 
 abbrev pub invariant-loop-k : goal.invariant-loop-k

@@ -4,7 +4,6 @@ use Rattle.graph.proofs.SearchRows.{visit_seen, visit_room, visit_new}
 use Rattle.graph.proofs.SearchRows.{visit_place, visit_found, visit_below}
 use mathlib.Core.Path.{sym, ◌∙◌}
 use native.Mathlib.Omega.{arith}
-use borrow.Author.Rules.{rules}
 use Rattle.loops.proofs.visit_job.Goals as goal
 
 pub returns-then-y-x : goal.returns-then-y-x

@@ -1,10 +1,5 @@
 use Rattle.graph.specs.SearchRows.{SearchWalking}
-use Rattle.graph.proofs.SearchRows.{walk_asks, walk_next, walk_found, walk_on, walk_less}
-use Rattle.graph.proofs.SearchRows.{walk_from_lem, walk_end}
 use Rattle.graph.specs.SearchRows.{SearchWalking}
-use Rattle.graph.proofs.SearchRows.{walk_asks, walk_next, walk_found, walk_on}
-use Rattle.graph.proofs.SearchRows.{walk_from_lem, walk_end}
-use borrow.Author.Rules.{rules}
 use Rattle.loops.proofs.walk.Given as goal
 
 abbrev pub invariant-loop-i : goal.invariant-loop-i

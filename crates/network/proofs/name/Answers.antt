@@ -1,5 +1,4 @@
 use Rattle.network.specs.Outcome.{first_low, name_is}
-use borrow.Author.Rules.{rules}
 use Rattle.network.proofs.name.Goals as goal
 
 pub job_at-j-requires : goal.job_at-j-requires

@@ -1,7 +1,6 @@
 use Rattle.network.specs.Outcome.{unsolved, solved_as}
 use Rattle.network.specs.Tables.{tables_are, numbered_tables}
 use Rattle.kinds.specs.SoundByTests.{counts_none, counts_found}
-use borrow.Author.Rules.{rules}
 use Rattle.network.proofs.solve.Goals as goal
 
 pub returns-then-f-eq0 : goal.returns-then-f-eq0

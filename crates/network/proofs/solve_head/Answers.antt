@@ -1,6 +1,5 @@
 use Rattle.reader.proofs.WholeLaws.{whole_none, whole_some, whole_found}
 use Rattle.network.specs.Outcome.{unsolved_head, solved_head}
-use borrow.Author.Rules.{rules}
 use Rattle.network.proofs.solve_head.Goals as goal
 
 pub returns-then-f-eq0 : goal.returns-then-f-eq0

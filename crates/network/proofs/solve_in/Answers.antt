@@ -1,5 +1,4 @@
 use Rattle.network.specs.Outcome.{name_asked, solved_for}
-use borrow.Author.Rules.{rules}
 use Rattle.network.proofs.solve_in.Goals as goal
 
 pub name-requires : goal.name-requires

@@ -1,7 +1,6 @@
 use borrow.Author.Tests.{le-leb, lt-leb, lt-ltb, le-ltb}
 use mathlib.Core.Path.{◌∙◌}
 use Rattle.numbers.specs.Bytes.{number_is}
-use borrow.Author.Rules.{rules}
 use Rattle.numbers.proofs.read_number.Goals as goal
 
 pub returns-then-file-at : goal.returns-then-file-at

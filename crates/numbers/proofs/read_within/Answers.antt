@@ -1,5 +1,4 @@
 use Rattle.numbers.specs.Numbers.{got_at, held}
-use borrow.Author.Rules.{rules}
 use Rattle.numbers.proofs.read_within.Goals as goal
 
 pub returns-then-is_within : goal.returns-then-is_within

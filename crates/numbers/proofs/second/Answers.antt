@@ -1,7 +1,6 @@
 use borrow.Author.Tests.{le-leb, lt-leb, lt-ltb, le-ltb, eq-eqb, ne_eqb}
 use mathlib.Core.Path.{◌∙◌}
 use Rattle.numbers.specs.Bytes.{second_at}
-use borrow.Author.Rules.{rules}
 use Rattle.numbers.proofs.second.Goals as goal
 
 pub returns-then-file-at : goal.returns-then-file-at

@@ -1,6 +1,5 @@
 use borrow.Author.Tests.{le-leb, lt-leb, lt-ltb, le-ltb, eq-eqb, ne_eqb}
 use Rattle.numbers.specs.Bytes.{third_at}
-use borrow.Author.Rules.{rules}
 use Rattle.numbers.proofs.third.Goals as goal
 
 pub returns-then-file-at : goal.returns-then-file-at

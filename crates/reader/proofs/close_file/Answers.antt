@@ -1,6 +1,5 @@
 use mathlib.Core.Path.{◌∙◌}
 use Rattle.reader.proofs.Ways.{closed_stopped, closed_whole}
-use borrow.Author.Rules.{rules}
 use Rattle.reader.proofs.close_file.Goals as goal
 
 pub returns-in-Refused : goal.returns-in-Refused

@@ -1,5 +1,4 @@
 use Rattle.reader.proofs.Ways.{ended_stopped, ended_whole}
-use borrow.Author.Rules.{rules}
 use Rattle.reader.proofs.end_file.Goals as goal
 
 pub returns-in-Refused : goal.returns-in-Refused

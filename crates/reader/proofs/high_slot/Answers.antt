@@ -1,7 +1,6 @@
 use Rattle.reader.proofs.SlotLaws.{high_in_part}
 use Rattle.vocabulary.specs.Least.{least}
 use native.Mathlib.Omega.{arith}
-use borrow.Author.Rules.{rules}
 use Rattle.reader.proofs.high_slot.Goals as goal
 
 pub returns-then-there-eq0 : goal.returns-then-there-eq0

@@ -1,5 +1,4 @@
 use Rattle.reader.proofs.Ways.{answer-refused, answer-ended}
-use borrow.Author.Rules.{rules}
 use Rattle.reader.proofs.read_outcome.Goals as goal
 
 pub returns-in-Refused : goal.returns-in-Refused

@@ -1,6 +1,5 @@
 use Rattle.reader.proofs.SlotLaws.{slots_high, slots_ended, slots_left, slots_all}
 use native.Mathlib.Omega.{arith}
-use borrow.Author.Rules.{rules}
 use Rattle.reader.proofs.read_slots.Goals as goal
 
 pub high_slot-high-requires : goal.high_slot-high-requires

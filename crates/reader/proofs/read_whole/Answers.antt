@@ -1,5 +1,4 @@
 use Rattle.reader.proofs.Ways.{whole_refused, whole_ended, whole_more}
-use borrow.Author.Rules.{rules}
 use Rattle.reader.proofs.read_whole.Goals as goal
 
 pub returns-then-at-bytes : goal.returns-then-at-bytes

@@ -1,5 +1,4 @@
 use native.Mathlib.Omega.{arith}
-use borrow.Author.Rules.{rules}
 use Rattle.reader.proofs.slots_present.Goals as goal
 
 pub returns-then-length-start : goal.returns-then-length-start

@@ -1,6 +1,5 @@
 use mathlib.Core.Path.{◌∙◌}
 use Rattle.reader.proofs.Ways.{taken_refused, taken_closed}
-use borrow.Author.Rules.{rules}
 use Rattle.reader.proofs.take_head.Goals as goal
 
 pub returns-in-Refused : goal.returns-in-Refused

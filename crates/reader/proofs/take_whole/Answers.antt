@@ -1,7 +1,6 @@
 use mathlib.Core.Path.{◌∙◌}
 use borrow.Author.Tests.{eq-eqb, ne_eqb}
 use Rattle.vocabulary.proofs.Test.{by_true, by_false}
-use borrow.Author.Rules.{rules}
 use Rattle.reader.proofs.take_whole.Goals as goal
 
 pub returns-then-at-length : goal.returns-then-at-length

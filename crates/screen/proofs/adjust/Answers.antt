@@ -1,7 +1,6 @@
 use Rattle.screen.proofs.FoundLaws.{answered}
 use Rattle.screen.specs.Findings.{adjusted_of}
 use mathlib.Core.Path.{ap₂, ◌∙◌}
-use borrow.Author.Rules.{rules}
 use Rattle.screen.proofs.adjust.Goals as goal
 
 pub returns : goal.returns

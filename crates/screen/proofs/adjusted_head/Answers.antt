@@ -1,6 +1,5 @@
 use Rattle.screen.proofs.FoundLaws.{adjusted_is}
 use mathlib.Core.Path.{◌∙◌}
-use borrow.Author.Rules.{rules}
 use Rattle.screen.proofs.adjusted_head.Goals as goal
 
 pub returns : goal.returns

@@ -1,4 +1,3 @@
-use borrow.Author.Rules.{rules}
 use Rattle.screen.proofs.evidence_of.Goals as goal
 
 pub returns-in-Cycle : goal.returns-in-Cycle

@@ -1,5 +1,4 @@
 use Rattle.screen.proofs.FoundLaws.{screened}
-use borrow.Author.Rules.{rules}
 use Rattle.screen.proofs.screen_head.Goals as goal
 
 pub returns : goal.returns

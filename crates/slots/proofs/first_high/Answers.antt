@@ -1,5 +1,4 @@
 use Rattle.slots.proofs.HighLaws.{none_high}
-use borrow.Author.Rules.{rules}
 use Rattle.slots.proofs.first_high.Goals as goal
 
 pub returns-then-top-n : goal.returns-then-top-n

@@ -1,8 +1,4 @@
-use Prim.Native.Nat.{◌-◌}
-use lib.ListN.{length}
-use Rattle.slots.specs.Topped.{Topped}
 use Rattle.slots.proofs.HighLaws.{top_from, top_on, top_end}
-use borrow.Author.Rules.{rules}
 use Rattle.slots.proofs.highest.Goals as goal
 
 pub loop-e-init : goal.loop-e-init

@@ -1,8 +1,6 @@
 use Prim.Native.Nat.{◌-◌}
 use lib.ListN.{length}
 use Rattle.slots.specs.Topped.{Topped}
-use Rattle.slots.proofs.HighLaws.{top_from, top_on, top_end}
-use borrow.Author.Rules.{rules}
 use Rattle.slots.proofs.highest.Given as goal
 
 abbrev pub invariant-loop-e : goal.invariant-loop-e

@@ -1,11 +1,6 @@
-use Prim.Native.Nat.{◌-◌}
 use native.Mathlib.Omega.{arith}
-use lib.ListN.{length}
-use Rattle.vocabulary.specs.Least.{Seeking}
 use Rattle.vocabulary.proofs.Least.{seek, on, hit, miss}
-use Rattle.slots.specs.High.{high}
 use Rattle.slots.proofs.HighLaws.{high_yes, high_no}
-use borrow.Author.Rules.{rules}
 use Rattle.slots.proofs.seek_high.Goals as goal
 
 pub loop-e-init : goal.loop-e-init

@@ -1,11 +1,7 @@
 use Prim.Native.Nat.{◌-◌}
-use native.Mathlib.Omega.{arith}
 use lib.ListN.{length}
 use Rattle.vocabulary.specs.Least.{Seeking}
-use Rattle.vocabulary.proofs.Least.{seek, on, hit, miss}
 use Rattle.slots.specs.High.{high}
-use Rattle.slots.proofs.HighLaws.{high_yes, high_no}
-use borrow.Author.Rules.{rules}
 use Rattle.slots.proofs.seek_high.Given as goal
 
 abbrev pub invariant-loop-e : goal.invariant-loop-e

@@ -1,6 +1,5 @@
 use native.Mathlib.Omega.{arith}
 use Rattle.writer.proofs.Order.{few_slots, other_length, high_slot_lem, too_short, fits}
-use borrow.Author.Rules.{rules}
 use Rattle.writer.proofs.answer.Goals as goal
 
 pub overflow_mul-f : goal.overflow_mul-f

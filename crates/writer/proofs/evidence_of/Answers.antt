@@ -1,4 +1,3 @@
-use borrow.Author.Rules.{rules}
 use Rattle.writer.proofs.evidence_of.Goals as goal
 
 pub returns-in-Length : goal.returns-in-Length

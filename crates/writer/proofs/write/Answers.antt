@@ -1,7 +1,6 @@
 use mathlib.Core.Path.{◌∙◌}
 use Rattle.kinds.specs.SoundByTests.{counts_none, counts_found, lent_found}
 use Rattle.writer.proofs.Order.{not_written, lent_written}
-use borrow.Author.Rules.{rules}
 use Rattle.writer.proofs.write.Goals as goal
 
 pub returns-then-f-eq0 : goal.returns-then-f-eq0

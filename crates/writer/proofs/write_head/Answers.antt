@@ -1,7 +1,6 @@
 use mathlib.Core.Path.{◌∙◌}
 use Rattle.reader.proofs.WholeLaws.{whole_found}
 use Rattle.writer.proofs.Order.{no_head_written, head_written}
-use borrow.Author.Rules.{rules}
 use Rattle.writer.proofs.write_head.Goals as goal
 
 pub returns-then-f-eq0 : goal.returns-then-f-eq0

@@ -2,7 +2,6 @@ use mathlib.Core.Path.{◌∙◌}
 use Rattle.kinds.specs.Build.{lent_set}
 use Rattle.writer.specs.Wrote.{wrote_long}
 use Rattle.writer.proofs.Order.{head_room, slots_room, all_written, kept}
-use borrow.Author.Rules.{rules}
 use Rattle.writer.proofs.write_tables.Goals as goal
 
 pub answer-requires : goal.answer-requires

@@ -1,7 +1,6 @@
 use mathlib.Core.Path.{◌∙◌}
 use Rattle.reader.proofs.WholeLaws.{whole_found}
 use Rattle.writer.proofs.Order.{no_head, head_answered}
-use borrow.Author.Rules.{rules}
 use Rattle.writer.proofs.written_head.Goals as goal
 
 pub returns-then-f-eq0 : goal.returns-then-f-eq0

@@ -1,6 +1,5 @@
 use Rattle.network.specs.LinkLists.{bases_asked, wired_asks, wired}
 use mathlib.Core.Path.{refl}
-use borrow.Author.Rules.{rules}
 use Rattle.network.proofs.links.expand.Goals as goal
 
 pub fill_bases-requires : goal.fill_bases-requires

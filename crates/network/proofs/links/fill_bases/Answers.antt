@@ -1,8 +1,5 @@
-use Rattle.kinds.specs.Tasks.{tasks_of}
-use Rattle.network.specs.LinkLists.{Basing, base_from, base_on, base_room, base_some, base_end}
+use Rattle.network.specs.LinkLists.{base_from, base_on, base_room, base_some, base_end}
 use native.Mathlib.Omega.{arith}
-use Prim.Native.Nat.{◌-◌}
-use borrow.Author.Rules.{rules}
 use Rattle.network.proofs.links.fill_bases.Goals as goal
 
 pub loop-i-init : goal.loop-i-init

@@ -1,8 +1,6 @@
 use Rattle.kinds.specs.Tasks.{tasks_of}
-use Rattle.network.specs.LinkLists.{Basing, base_from, base_on, base_room, base_some, base_end}
-use native.Mathlib.Omega.{arith}
+use Rattle.network.specs.LinkLists.{Basing}
 use Prim.Native.Nat.{◌-◌}
-use borrow.Author.Rules.{rules}
 use Rattle.network.proofs.links.fill_bases.Given as goal
 
 abbrev pub invariant-loop-i : goal.invariant-loop-i

@@ -1,8 +1,5 @@
-use Rattle.network.specs.LinkLists.{Appended, pair_made, append_join, append_end, pairs_step, pairs_on}
-use Rattle.vocabulary.specs.Table.{join}
+use Rattle.network.specs.LinkLists.{append_join, append_end, pairs_step, pairs_on}
 use native.Mathlib.Omega.{arith}
-use Prim.Native.Nat.{◌-◌, ◌≤◌}
-use borrow.Author.Rules.{rules}
 use Rattle.network.proofs.links.put_pairs.Goals as goal
 
 pub loop-q-init : goal.loop-q-init

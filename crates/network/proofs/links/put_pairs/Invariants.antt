@@ -1,8 +1,6 @@
-use Rattle.network.specs.LinkLists.{Appended, pair_made, append_join, append_end, pairs_step, pairs_on}
+use Rattle.network.specs.LinkLists.{Appended, pair_made}
 use Rattle.vocabulary.specs.Table.{join}
-use native.Mathlib.Omega.{arith}
 use Prim.Native.Nat.{◌-◌, ◌≤◌}
-use borrow.Author.Rules.{rules}
 use Rattle.network.proofs.links.put_pairs.Given as goal
 
 abbrev pub invariant-loop-q : goal.invariant-loop-q

@@ -1,8 +1,5 @@
-use Rattle.network.specs.LinkLists.{Spreading, spread_from, spread_tasks, spread_asks, spread_room, spread_on, spread_end}
-use Rattle.kinds.specs.Tasks.{patterns_of}
+use Rattle.network.specs.LinkLists.{spread_from, spread_tasks, spread_asks, spread_room, spread_on, spread_end}
 use native.Mathlib.Omega.{arith}
-use Prim.Native.Nat.{◌-◌}
-use borrow.Author.Rules.{rules}
 use Rattle.network.proofs.links.put_patterns.Goals as goal
 
 pub loop-k-init : goal.loop-k-init

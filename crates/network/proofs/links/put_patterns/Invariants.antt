@@ -1,8 +1,6 @@
-use Rattle.network.specs.LinkLists.{Spreading, spread_from, spread_tasks, spread_asks, spread_room, spread_on, spread_end}
+use Rattle.network.specs.LinkLists.{Spreading}
 use Rattle.kinds.specs.Tasks.{patterns_of}
-use native.Mathlib.Omega.{arith}
 use Prim.Native.Nat.{◌-◌}
-use borrow.Author.Rules.{rules}
 use Rattle.network.proofs.links.put_patterns.Given as goal
 
 abbrev pub invariant-loop-k : goal.invariant-loop-k

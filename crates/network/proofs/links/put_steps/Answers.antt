@@ -1,7 +1,5 @@
-use Rattle.network.specs.LinkLists.{StepsMade, turns_are, steps_from, steps_low₁, steps_low₂, steps_place, steps_on, steps_end}
+use Rattle.network.specs.LinkLists.{turns_are, steps_from, steps_low₁, steps_low₂, steps_place, steps_on, steps_end}
 use native.Mathlib.Omega.{arith}
-use Prim.Native.Nat.{◌-◌}
-use borrow.Author.Rules.{rules}
 use Rattle.network.proofs.links.put_steps.Goals as goal
 
 pub nonzero_div-b : goal.nonzero_div-b

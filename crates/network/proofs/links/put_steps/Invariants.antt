@@ -1,7 +1,5 @@
-use Rattle.network.specs.LinkLists.{StepsMade, turns_are, steps_from, steps_low₁, steps_low₂, steps_place, steps_on, steps_end}
-use native.Mathlib.Omega.{arith}
+use Rattle.network.specs.LinkLists.{StepsMade}
 use Prim.Native.Nat.{◌-◌}
-use borrow.Author.Rules.{rules}
 use Rattle.network.proofs.links.put_steps.Given as goal
 
 abbrev pub invariant-loop-n : goal.invariant-loop-n

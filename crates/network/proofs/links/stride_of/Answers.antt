@@ -1,7 +1,6 @@
 use mathlib.Core.List.{[]}
 use Rattle.network.specs.LinkLists.{stride_some₁, stride_some₂, stride_some, stride_is}
 use native.Mathlib.Omega.{arith}
-use borrow.Author.Rules.{rules}
 use Rattle.network.proofs.links.stride_of.Goals as goal
 
 pub nonzero_div-h : goal.nonzero_div-h

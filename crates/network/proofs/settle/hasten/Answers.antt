@@ -2,7 +2,6 @@ use mathlib.Core.Path.{refl}
 use Rattle.graph.proofs.JobRows.{raises, not_raises}
 use Rattle.graph.proofs.Column.{column_at}
 use native.Mathlib.Omega.{arith}
-use borrow.Author.Rules.{rules}
 use Rattle.network.proofs.settle.hasten.Goals as goal
 
 pub capped-s-requires : goal.capped-s-requires

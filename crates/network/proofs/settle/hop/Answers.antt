@@ -1,7 +1,6 @@
 use Rattle.graph.proofs.JobRows.{hop_on, hopped}
 use Rattle.vocabulary.proofs.Test.{clash}
 use mathlib.Core.Path.{refl}
-use borrow.Author.Rules.{rules}
 use Rattle.network.proofs.settle.hop.Goals as goal
 
 pub hasten-requires : goal.hasten-requires

@@ -1,13 +1,9 @@
 use Rattle.graph.proofs.Pass.{turn_low}
-use Rattle.graph.specs.JobRows.{Sweeps}
 use Rattle.graph.proofs.JobRows.{sweep_hop, sweep_on}
 use Rattle.graph.proofs.JobRows.{sweep_from, sweep_end}
 use Rattle.vocabulary.proofs.Test.{clash}
 use mathlib.Core.Path.{sym, ◌∙◌}
 use native.Mathlib.Omega.{arith}
-use Prim.Native.Nat.{◌-◌}
-use lib.ListN.{length}
-use borrow.Author.Rules.{rules}
 use Rattle.network.proofs.settle.sweep_links.Goals.{then-hop, else-hop}
 use Rattle.network.proofs.settle.sweep_links.Goals as goal
 

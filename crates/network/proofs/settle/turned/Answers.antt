@@ -1,4 +1,3 @@
-use borrow.Author.Rules.{rules}
 use Rattle.network.proofs.settle.turned.Goals as goal
 
 pub returns-then-back : goal.returns-then-back

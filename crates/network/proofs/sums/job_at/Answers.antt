@@ -1,8 +1,5 @@
-use Rattle.network.specs.Named.{Naming, name_from, name_some, name_hit, name_on, name_end}
-use Rattle.kinds.specs.Tasks.{tasks_of}
+use Rattle.network.specs.Named.{name_from, name_some, name_hit, name_on, name_end}
 use native.Mathlib.Omega.{arith}
-use Prim.Native.Nat.{◌-◌}
-use borrow.Author.Rules.{rules}
 use Rattle.network.proofs.sums.job_at.Goals as goal
 
 pub loop-i-init : goal.loop-i-init

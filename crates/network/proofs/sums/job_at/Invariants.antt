@@ -1,8 +1,6 @@
-use Rattle.network.specs.Named.{Naming, name_from, name_some, name_hit, name_on, name_end}
+use Rattle.network.specs.Named.{Naming}
 use Rattle.kinds.specs.Tasks.{tasks_of}
-use native.Mathlib.Omega.{arith}
 use Prim.Native.Nat.{◌-◌}
-use borrow.Author.Rules.{rules}
 use Rattle.network.proofs.sums.job_at.Given as goal
 
 abbrev pub invariant-loop-i : goal.invariant-loop-i

@@ -1,8 +1,5 @@
-use Rattle.network.specs.Named.{Loading, load_from, load_some, load_low, load_on, load_room, load_end}
-use Rattle.kinds.specs.Tasks.{tasks_of}
+use Rattle.network.specs.Named.{load_from, load_some, load_low, load_on, load_room, load_end}
 use native.Mathlib.Omega.{arith}
-use Prim.Native.Nat.{◌-◌}
-use borrow.Author.Rules.{rules}
 use Rattle.network.proofs.sums.load_of.Goals as goal
 
 pub loop-i-init : goal.loop-i-init

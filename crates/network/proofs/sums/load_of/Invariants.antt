@@ -1,8 +1,6 @@
-use Rattle.network.specs.Named.{Loading, load_from, load_some, load_low, load_on, load_room, load_end}
+use Rattle.network.specs.Named.{Loading}
 use Rattle.kinds.specs.Tasks.{tasks_of}
-use native.Mathlib.Omega.{arith}
 use Prim.Native.Nat.{◌-◌}
-use borrow.Author.Rules.{rules}
 use Rattle.network.proofs.sums.load_of.Given as goal
 
 abbrev pub invariant-loop-i : goal.invariant-loop-i

@@ -1,9 +1,5 @@
-use Rattle.network.specs.Named.{Bounding, bound_from, bound_some, bound_low, bound_on, bound_room, bound_end}
-use Rattle.kinds.specs.Tasks.{tasks_of, patterns_of}
-use mathlib.Core.List.{[]}
+use Rattle.network.specs.Named.{bound_from, bound_some, bound_low, bound_on, bound_room, bound_end}
 use native.Mathlib.Omega.{arith}
-use Prim.Native.Nat.{◌-◌}
-use borrow.Author.Rules.{rules}
 use Rattle.network.proofs.sums.most_links.Goals as goal
 
 pub loop-k-init : goal.loop-k-init

@@ -1,9 +1,7 @@
-use Rattle.network.specs.Named.{Bounding, bound_from, bound_some, bound_low, bound_on, bound_room, bound_end}
+use Rattle.network.specs.Named.{Bounding}
 use Rattle.kinds.specs.Tasks.{tasks_of, patterns_of}
 use mathlib.Core.List.{[]}
-use native.Mathlib.Omega.{arith}
 use Prim.Native.Nat.{◌-◌}
-use borrow.Author.Rules.{rules}
 use Rattle.network.proofs.sums.most_links.Given as goal
 
 abbrev pub invariant-loop-k : goal.invariant-loop-k

@@ -1,5 +1,4 @@
 use Rattle.network.specs.Outcome.{bound_needs, fits_small, fits_large}
-use borrow.Author.Rules.{rules}
 use Rattle.network.proofs.tiers.solve_sized.Goals as goal
 
 pub most_links-requires : goal.most_links-requires

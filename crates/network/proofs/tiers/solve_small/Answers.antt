@@ -2,7 +2,6 @@ use Rattle.network.specs.Outcome.{expand_asked, solve_asked, lowest_in_lem}
 use Rattle.vocabulary.proofs.Prefix.{taken}
 use mathlib.Core.Path.{refl, sym}
 use native.Mathlib.Omega.{arith}
-use borrow.Author.Rules.{rules}
 use Rattle.network.proofs.tiers.solve_small.Goals as goal
 
 pub slice_bounds-expand-end : goal.slice_bounds-expand-end

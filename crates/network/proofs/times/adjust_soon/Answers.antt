@@ -1,6 +1,5 @@
 use mathlib.Core.Path.{◌∙◌, sym}
 use Rattle.network.specs.JobTimes.{not_quick, falls_asked, is_quick}
-use borrow.Author.Tests.{not-false}
 use Rattle.network.proofs.times.adjust_soon.Goals as goal
 
 pub adjust_rows-requires : goal.adjust_rows-requires

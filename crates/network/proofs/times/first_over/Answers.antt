@@ -1,12 +1,8 @@
-use Rattle.network.specs.JobTimes.{over, over_is}
-use Rattle.vocabulary.specs.Least.{Seeking}
+use Rattle.network.specs.JobTimes.{over_is}
 use Rattle.vocabulary.proofs.Least.{seek, on, hit, miss}
 use borrow.Author.Tests.{lt-ltb, le-ltb}
 use mathlib.Core.Path.{sym, ◌∙◌}
 use native.Mathlib.Omega.{arith}
-use Prim.Native.Nat.{◌-◌}
-use lib.ListN.{length}
-use borrow.Author.Rules.{rules}
 use Rattle.network.proofs.times.first_over.Goals as goal
 
 pub loop-x-init : goal.loop-x-init

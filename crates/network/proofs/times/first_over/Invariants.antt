@@ -1,12 +1,7 @@
-use Rattle.network.specs.JobTimes.{over, over_is}
+use Rattle.network.specs.JobTimes.{over}
 use Rattle.vocabulary.specs.Least.{Seeking}
-use Rattle.vocabulary.proofs.Least.{seek, on, hit, miss}
-use borrow.Author.Tests.{lt-ltb, le-ltb}
-use mathlib.Core.Path.{sym, ◌∙◌}
-use native.Mathlib.Omega.{arith}
 use Prim.Native.Nat.{◌-◌}
 use lib.ListN.{length}
-use borrow.Author.Rules.{rules}
 use Rattle.network.proofs.times.first_over.Given as goal
 
 abbrev pub invariant-loop-x : goal.invariant-loop-x

@@ -1,5 +1,4 @@
 use Rattle.network.proofs.Signs.{left_fits, left_is}
-use borrow.Author.Rules.{rules}
 use Rattle.network.proofs.times.left_of.Goals as goal
 
 pub overflow_sub-result : goal.overflow_sub-result

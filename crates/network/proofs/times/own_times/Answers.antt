@@ -1,9 +1,6 @@
-use Rattle.network.specs.JobTimes.{Owning, own_from, own_some, own_jobs, own_fits, own_on, own_end}
-use Rattle.kinds.specs.Tasks.{tasks_of}
+use Rattle.network.specs.JobTimes.{own_from, own_some, own_jobs, own_fits, own_on, own_end}
 use native.Mathlib.Omega.{arith}
 use mathlib.Core.Path.{◌∙◌, sym}
-use Prim.Native.Nat.{◌-◌}
-use borrow.Author.Rules.{rules}
 use Rattle.network.proofs.times.own_times.Goals as goal
 
 pub loop-i-init : goal.loop-i-init

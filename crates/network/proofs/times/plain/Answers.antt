@@ -1,7 +1,6 @@
 use mir.ValLaws.{to_z_pos}
 use mir.Syntax.{w32}
 use native.Mathlib.Omega.{arith}
-use borrow.Author.Rules.{rules}
 use Rattle.network.proofs.times.plain.Goals as goal
 
 pub returns : goal.returns

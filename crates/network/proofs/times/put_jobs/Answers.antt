@@ -1,8 +1,6 @@
-use Rattle.network.specs.JobTimes.{JobsMade, jobs_from, jobs_place, jobs_low, jobs_small, jobs_on}
+use Rattle.network.specs.JobTimes.{jobs_from, jobs_place, jobs_low, jobs_small, jobs_on}
 use Rattle.network.specs.Placed.{place_end}
 use native.Mathlib.Omega.{arith}
-use Prim.Native.Nat.{◌-◌}
-use borrow.Author.Rules.{rules}
 use Rattle.network.proofs.times.put_jobs.Goals as goal
 
 pub overflow_sub-z : goal.overflow_sub-z

@@ -1,8 +1,5 @@
-use Rattle.network.specs.JobTimes.{JobsMade, jobs_from, jobs_place, jobs_low, jobs_small, jobs_on}
-use Rattle.network.specs.Placed.{place_end}
-use native.Mathlib.Omega.{arith}
+use Rattle.network.specs.JobTimes.{JobsMade}
 use Prim.Native.Nat.{◌-◌}
-use borrow.Author.Rules.{rules}
 use Rattle.network.proofs.times.put_jobs.Given as goal
 
 abbrev pub invariant-loop-n : goal.invariant-loop-n

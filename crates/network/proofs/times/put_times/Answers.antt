@@ -1,5 +1,4 @@
 use Rattle.network.specs.JobTimes.{put_not_first, put_not_second, put_asked, put_both}
-use borrow.Author.Rules.{rules}
 use Rattle.network.proofs.times.put_times.Goals as goal
 
 pub returns-then-releases-n : goal.returns-then-releases-n

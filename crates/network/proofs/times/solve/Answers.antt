@@ -1,6 +1,5 @@
 use Rattle.network.specs.JobTimes.{solved_soon, solved_cycle, rounds_asked, solved_late}
 use mathlib.Core.Path.{◌∙◌, sym}
-use borrow.Author.Rules.{rules}
 use Rattle.network.proofs.times.solve.Goals as goal
 
 pub adjust_soon-requires : goal.adjust_soon-requires

@@ -1,6 +1,5 @@
 use mathlib.Core.List.{[]}
 use Rattle.network.specs.JobTimes.{worked_cycle, solved_low, worked}
-use borrow.Author.Rules.{rules}
 use Rattle.network.proofs.times.solve_in.Goals as goal
 
 pub returns-then-x-n : goal.returns-then-x-n

@@ -1,10 +1,7 @@
 use Rattle.writer.proofs.Turns.{wrote_end, wrote_first, wrote_next, room_next}
-use Prim.Native.Nat.{◌*◌, ◌-◌, ◌≤◌}
+use Prim.Native.Nat.{◌*◌}
 use native.Mathlib.Omega.{arith}
-use Rattle.writer.specs.Format.{bytes_in}
-use Rattle.writer.specs.Lent.{part}
-use Rattle.writer.specs.Wrote.{Wrote, wrote_long}
-use borrow.Author.Rules.{rules}
+use Rattle.writer.specs.Wrote.{wrote_long}
 use Rattle.writer.proofs.bytes.emit_pairs.Goals as goal
 
 pub overflow_mul-first : goal.overflow_mul-first

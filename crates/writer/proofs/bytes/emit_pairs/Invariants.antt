@@ -1,10 +1,7 @@
-use Rattle.writer.proofs.Turns.{wrote_end, wrote_first, wrote_next, room_next}
-use Prim.Native.Nat.{◌*◌, ◌-◌, ◌≤◌}
-use native.Mathlib.Omega.{arith}
+use Prim.Native.Nat.{◌-◌, ◌≤◌}
 use Rattle.writer.specs.Format.{bytes_in}
 use Rattle.writer.specs.Lent.{part}
-use Rattle.writer.specs.Wrote.{Wrote, wrote_long}
-use borrow.Author.Rules.{rules}
+use Rattle.writer.specs.Wrote.{Wrote}
 use Rattle.writer.proofs.bytes.emit_pairs.Given as goal
 
 abbrev pub invariant-loop-e : goal.invariant-loop-e

@@ -1,13 +1,9 @@
 use Prim.Native.Nat.{◌-◌, ◌≤◌}
-use mathlib.Core.Path.{◌≡◌, sym}
-use native.Mathlib.Omega.{arith}
+use mathlib.Core.Path.{◌≡◌}
 use Rattle.vocabulary.specs.Table.{join}
 use Rattle.kinds.specs.Tasks.{patterns_of, pairs_in}
-use Rattle.kinds.specs.RangeLaws.{pairs_none}
 use Rattle.writer.specs.FormatLaws.{pattern_bytes}
-use Rattle.writer.specs.Wrote.{Wrote, wrote_long}
-use Rattle.writer.proofs.Turns.{from_low, to_low, count_low, used_low, used_turn, heading_room, pairs_room, wrote_turn, wrote_no_pattern, wrote_patterns}
-use borrow.Author.Rules.{rules}
+use Rattle.writer.specs.Wrote.{Wrote}
 use Rattle.writer.proofs.bytes.emit_patterns.Given as goal
 
 abbrev pub invariant-loop-k : goal.invariant-loop-k

@@ -1,10 +1,5 @@
-use Prim.Native.Nat.{◌-◌, ◌≤◌}
-use mathlib.Core.Path.{◌≡◌}
 use native.Mathlib.Omega.{arith}
-use lib.ListN.{length}
-use lib.Seq.{paste}
 use Rattle.writer.proofs.Turns.{copy_first, copy_next, copy_long, copied}
-use borrow.Author.Rules.{rules}
 use Rattle.writer.proofs.bytes.emit_slots.Goals as goal
 
 pub loop-e-init : goal.loop-e-init

@@ -1,10 +1,7 @@
 use Prim.Native.Nat.{◌-◌, ◌≤◌}
 use mathlib.Core.Path.{◌≡◌}
-use native.Mathlib.Omega.{arith}
 use lib.ListN.{length}
 use lib.Seq.{paste}
-use Rattle.writer.proofs.Turns.{copy_first, copy_next, copy_long, copied}
-use borrow.Author.Rules.{rules}
 use Rattle.writer.proofs.bytes.emit_slots.Given as goal
 
 abbrev pub invariant-loop-e : goal.invariant-loop-e

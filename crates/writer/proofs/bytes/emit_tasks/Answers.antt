@@ -1,10 +1,7 @@
 use Rattle.writer.proofs.Turns.{wrote_end, at_zero, wrote_first, wrote_next, room_next}
-use Rattle.writer.specs.Wrote.{wrote_long, Wrote}
-use Prim.Native.Nat.{◌*◌, ◌-◌, ◌≤◌}
+use Rattle.writer.specs.Wrote.{wrote_long}
+use Prim.Native.Nat.{◌*◌}
 use native.Mathlib.Omega.{arith}
-use Rattle.writer.specs.Format.{bytes_in}
-use Rattle.writer.specs.Lent.{part}
-use borrow.Author.Rules.{rules}
 use Rattle.writer.proofs.bytes.emit_tasks.Goals as goal
 
 pub loop-e-init : goal.loop-e-init

@@ -1,5 +1,5 @@
-use Prim.Native.Nat.{◌*◌, ◌-◌, ◌≤◌}
-use mathlib.Core.Path.{◌≡◌, sym, ap, ◌∙◌}
+use Prim.Native.Nat.{◌*◌}
+use mathlib.Core.Path.{sym, ap, ◌∙◌}
 use native.Mathlib.Omega.{arith}
 use native.Mathlib.Nat.{le_antisymm}
 use lib.ListN.{length}
@@ -7,7 +7,6 @@ use Rattle.writer.specs.Format.{bytes_in}
 use Rattle.writer.specs.Lent.{part}
 use Rattle.writer.proofs.Turns.{none_yet, length_next, part_low}
 use Rattle.writer.proofs.Widths.{width_low}
-use borrow.Author.Rules.{rules}
 use Rattle.writer.proofs.lengths.pairs_length.Goals as goal
 
 pub overflow_mul-first : goal.overflow_mul-first

@@ -1,14 +1,12 @@
-use Prim.Native.Nat.{◌+◌, ◌*◌, ◌-◌, ◌≤◌}
-use mathlib.Core.Path.{◌≡◌, sym, ap, ◌∙◌}
+use mathlib.Core.Path.{sym, ap, ◌∙◌}
 use native.Mathlib.Omega.{arith}
 use native.Mathlib.Nat.{le_antisymm}
 use lib.ListN.{length}
 use Rattle.vocabulary.specs.Table.{join}
-use Rattle.kinds.specs.Tasks.{patterns_of, pairs_in}
+use Rattle.kinds.specs.Tasks.{patterns_of}
 use Rattle.kinds.specs.RangeLaws.{pairs_none}
 use Rattle.writer.specs.FormatLaws.{pattern_bytes}
 use Rattle.writer.proofs.Turns.{used_low, used_turn, length_turn, turn_low, no_patterns}
-use borrow.Author.Rules.{rules}
 use Rattle.writer.proofs.lengths.patterns_length.Goals as goal
 
 pub loop-k-init : goal.loop-k-init

@@ -1,5 +1,4 @@
-use Prim.Native.Nat.{◌-◌, ◌≤◌}
-use mathlib.Core.Path.{◌≡◌, sym, ap, ◌∙◌}
+use mathlib.Core.Path.{sym, ap, ◌∙◌}
 use native.Mathlib.Omega.{arith}
 use native.Mathlib.Nat.{le_antisymm}
 use lib.ListN.{length, get_or}
@@ -7,7 +6,6 @@ use Rattle.writer.specs.Format.{bytes_in}
 use Rattle.writer.specs.Lent.{part}
 use Rattle.writer.proofs.Turns.{at_zero, none_yet, length_next, part_low}
 use Rattle.writer.proofs.Widths.{width_low}
-use borrow.Author.Rules.{rules}
 use Rattle.writer.proofs.lengths.tasks_length.Goals as goal
 
 pub loop-e-init : goal.loop-e-init

@@ -1,6 +1,5 @@
 use Rattle.writer.proofs.Widths.{width_low, three_long}
 use native.Mathlib.Omega.{arith}
-use borrow.Author.Rules.{rules}
 use Rattle.writer.proofs.lengths.three_length.Goals as goal
 
 pub overflow_add-result : goal.overflow_add-result
