@@ -53,12 +53,12 @@ FACTS = [re.compile(form) for form in (
     r"`rw`: no occurrence of the path's (left|right) endpoint in the goal",
     # The two sides of an equation differ.
     r'(as printed|computed as far as they go), the two sides ',
+    r'computed as a goal is, one side reads ',
     r'`.*` ≟ `.*`:? does not hold \(this comparison',
 )]
 # One fact is given where another is wanted, if what is wanted says something of terms; a type of data, as `ℕ → ℕ`, has none in it.
 OTHER = re.compile(r'(?:expected type|(?:as printed|computed as far as they go), the two types) ')
-WANTED = re.compile(r'(?:expected type|the two types are) `([^`]*)`')
-DIFFER = re.compile(r'(?:as printed|computed as far as they go), the two types differ only where one has `([^`]*)`')
+WANTED = re.compile(r'(?:expected type|the two types are|the two types (?:first differ|differ only) where one has) `([^`]*)(?:`|$)')
 MODULES = re.compile(r'[^\s(){}.]+\.(?=\S)')
 TERM = re.compile(r'[≡≤<∣]|\bPath\b|(?<![\w.])[a-z]')
 ERROR = re.compile(r'^(\S+?):(\d+):\d+: error(?:\[[\w-]+\])?: (?:`[^`\n]+`: )?(.*(?:\n  .*)*)', re.M)
@@ -113,7 +113,7 @@ def fails(text):
     """Whether an error says that a fact fails."""
     if any(form.match(text) for form in FACTS):
         return True
-    wanted = OTHER.match(text) and (WANTED.search(text) or DIFFER.match(text))
+    wanted = WANTED.search(text) if OTHER.match(text) else None
     return bool(wanted and TERM.search(MODULES.sub('', wanted.group(1))))
 
 
