@@ -60,7 +60,7 @@ FACTS = [re.compile(form) for form in (
 OTHER = re.compile(r'(?:expected type|(?:as printed|computed as far as they go), the two types) ')
 WANTED = re.compile(r'(?:expected type|the two types are|the two types (?:first differ|differ only) where one has) `([^`]*)(?:`|$)')
 MODULES = re.compile(r'[^\s(){}.]+\.(?=\S)')
-TERM = re.compile(r'[≡≤<∣]|\bPath\b|(?<![\w.])[a-z]')
+TERM = re.compile(r'[≡≤<∣]|\bPath\b|(?<![\w.])[a-z]|^\d+$')
 ERROR = re.compile(r'^(\S+?):(\d+):\d+: error(?:\[[\w-]+\])?: (?:`[^`\n]+`: )?(.*(?:\n  .*)*)', re.M)
 GOAL = re.compile(r'^note: (\S+?):(\d+):\d+: (it is not proved that .*)', re.M)
 SEARCH = re.compile(r'^note: what antt said of a `search` in the proof that rattle made: (\S+?):(\d+):\d+: `[^`\n]+`: (.*(?:\n  .*)*)', re.M)
@@ -113,8 +113,7 @@ def fails(text):
     """Whether an error says that a fact fails."""
     if any(form.match(text) for form in FACTS):
         return True
-    wanted = WANTED.search(text) if OTHER.match(text) else None
-    return bool(wanted and TERM.search(MODULES.sub('', wanted.group(1))))
+    return bool(OTHER.match(text)) and any(TERM.search(MODULES.sub('', m.group(1))) for m in WANTED.finditer(text))
 
 
 def own_errors(said):
@@ -142,8 +141,8 @@ def judged(one, said):
     return f'{one}: {said}', False
 
 
-def attempt(one, name, edit, crates, said):
-    """Checks the crate with one edit: a line to print, and whether it is refused as it must be. `said` is what rt must-fail said of it."""
+def attempt(one, name, edit, crates):
+    """Checks the crate with one edit: a line to print, and whether it is refused as it must be."""
     with tempfile.TemporaryDirectory(prefix='edit-') as where:
         lay_out(where, crates)
         home, kept = (os.path.join(top, 'crates', name) for top in (where, TOP))
@@ -254,10 +253,11 @@ def trial(home, crates):
     with concurrent.futures.ThreadPoolExecutor(int(os.environ.get('RT_JOBS') or min(4, os.cpu_count() or 1))) as pool:
         cases = []
         for name in edits:
+            untried = 'NOT TRIED' if name in proved else 'NOT TRIED, since the unedited crate is not proved'
             for label, path in edits[name]:
-                one, words = f'{name}/{label}', said.get((name, label), 'NOT TRIED, since the unedited crate is not proved' if name not in proved else 'NOT TRIED')
-                case = judged(one, words)
-                cases.append(pool.submit(attempt, one, name, path, crates, words) if case is None else case)
+                one = f'{name}/{label}'
+                case = judged(one, said.get((name, label), untried))
+                cases.append(pool.submit(attempt, one, name, path, crates) if case is None else case)
         for case in cases:
             line, right = case if isinstance(case, tuple) else case.result()
             print(line, flush=True)
