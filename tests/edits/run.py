@@ -46,7 +46,7 @@ FACTS = [re.compile(form) for form in (
     r'`omega`: the (goal|part `.*` of the goal) does not follow from what it read',
     r'`search`: no proof of `.*` was found',
     r'`grind`: .*(no proof|does not follow|was not proved)',
-    r'give a proof of that as the last argument.* so what it leaves must be a path whose two ends are equal, and `.*` is none',
+    r'give a proof of that as the last argument, `(rw|simp) L t`',
     # An equation that is known has nothing to say about the goal.
     r'`simp`: no equation of the list has an instance in the goal `',
     r'`rw`: no part of the goal `.*` is an instance of ',
