@@ -1,6 +1,6 @@
 """A changed definition must break the marked cases, or the second table of cases.
 
-Each *.edit beside this file changes a definition of some crate. The script lays out the definitions that `cases` stands on, without code and without
+Each *.edit beside this file changes a definition of some crate. The script lays out `cases` and the definitions that it stands on, without code and without
 laws, so that nothing else can refuse the change; proves both tables there as they are; and then shows that each change makes the marked cases fail. An
 edit in `second` makes a part of the second table fail and leaves the marked cases as they are. No other file may have an error. An edit has a comment, and
 `file:`, `old:` and `new:` lines as must-fail edits have, with the path from the top. RT_JOBS edits run at a time, as in rt. All of it is laid out outside of
@@ -17,25 +17,33 @@ FIRST = {'Marked'}
 PARTS = {'ReaderCases', 'SetCases', 'WriterCases', 'JudgeCases', 'DispatcherCases'}
 # by an edit's folder, the table that has to fail: what it is called, its files, and the files that must have no error
 TABLES = {'': ('the marked cases', FIRST, set()), 'second': ('the second table', PARTS, FIRST)}
-USE = re.compile(r'^(?:ghost )?use Rattle\.(\w+)\.specs\.(\w+)', re.M)
+USE = re.compile(r'^(?:ghost )?use Rattle\.(\w+)\.(specs|proofs)\.(\w+)', re.M)
+
+
+def modules(crate, part):
+    """The files that stand in a crate's specs or proofs, in the order of Lib.antt there."""
+    lib = os.path.join(TOP, 'crates', crate, part, 'Lib.antt')
+    if not os.path.isfile(lib):
+        return []
+    with open(lib, encoding='utf-8') as f:
+        return re.findall(r'^(?:pub )?mod (\w+)', f.read(), re.M)
 
 
 def used(text):
-    """The spec files of this repository, as (crate, file), that a text brings in."""
-    return {(crate, file) for crate, file in USE.findall(text) if crate != 'std' and file != 'declared'}
+    """The files of this repository, as (crate, part, file), that a text brings in."""
+    return {(crate, part, file) for crate, part, file in USE.findall(text) if crate != 'std' and file != 'declared'}
 
 
 def reached():
-    """Every spec file that the cases stand on."""
-    home = os.path.join(TOP, 'crates', 'cases', 'specs')
-    todo = [('cases', f[:-5]) for f in os.listdir(home) if f.endswith('.antt') and f != 'Lib.antt']
+    """Every file of definitions, and of the cases themselves, that the cases stand on."""
+    todo = [('cases', part, file) for part in ('specs', 'proofs') for file in modules('cases', part)]
     seen = set()
     while todo:
-        crate, file = todo.pop()
-        if (crate, file) in seen:
+        crate, part, file = todo.pop()
+        if (crate, part, file) in seen:
             continue
-        seen.add((crate, file))
-        with open(os.path.join(TOP, 'crates', crate, 'specs', file + '.antt'), encoding='utf-8') as f:
+        seen.add((crate, part, file))
+        with open(os.path.join(TOP, 'crates', crate, part, file + '.antt'), encoding='utf-8') as f:
             todo += used(f.read())
     return seen
 
@@ -78,31 +86,31 @@ def types_only(text, crates):
 
 def lay_out(where):
     files = reached()
-    crates = sorted({crate for crate, _ in files})
+    crates = sorted({crate for crate, _, _ in files})
     below = listed(TOP)
     for crate in crates:
         home, copy = os.path.join(TOP, 'crates', crate), os.path.join(where, 'crates', crate)
         os.makedirs(os.path.join(copy, 'src'))
-        os.makedirs(os.path.join(copy, 'specs'))
         with open(os.path.join(home, 'src', 'lib.rt'), encoding='utf-8') as f, open(os.path.join(copy, 'src', 'lib.rt'), 'w', encoding='utf-8') as out:
             out.write(types_only(f.read(), crates))
-        mine = sorted(file for c, file in files if c == crate)
-        with open(os.path.join(home, 'specs', 'Lib.antt'), encoding='utf-8') as f:
-            order = [m for m in re.findall(r'^pub mod (\w+)', f.read(), re.M) if m in mine]
-        with open(os.path.join(copy, 'specs', 'Lib.antt'), 'w', encoding='utf-8') as out:
-            out.write(''.join(f'pub mod {m}\n' for m in order))
-        for m in order:
-            shutil.copy(os.path.join(home, 'specs', m + '.antt'), os.path.join(copy, 'specs', m + '.antt'))
+        for part in ('specs', 'proofs'):
+            order = [file for file in modules(crate, part) if (crate, part, file) in files]
+            if order:
+                os.makedirs(os.path.join(copy, part))
+                with open(os.path.join(copy, part, 'Lib.antt'), 'w', encoding='utf-8') as out:
+                    out.write(''.join(f'pub mod {file}\n' for file in order))
+            for file in order:
+                shutil.copy(os.path.join(home, part, file + '.antt'), os.path.join(copy, part, file + '.antt'))
     with open(os.path.join(where, 'crates.txt'), 'w', encoding='utf-8') as out:
         out.write(''.join(f"{c}: {' '.join(d for d in below[c] if d in crates)}\n" for c in crates))
 
 
 def check(where):
-    """The status of a check, the files of `cases` or other files in which it found errors, and all that it said."""
+    """The status of a check, the files in which it found errors, by their names, and all that it said."""
     ran = subprocess.run(['rt', 'check', '--jobs', '1'], cwd=os.path.join(where, 'crates', 'cases'), capture_output=True, text=True)
     said = ran.stdout + ran.stderr
     found = set(re.findall(r'^(?:\./)?(\S+?):\d+:\d+: error', said, re.M))
-    return ran.returncode, {f.removeprefix('specs/').removesuffix('.antt') for f in found}, said
+    return ran.returncode, {re.sub(r'^(specs|proofs)/|\.antt$', '', f) for f in found}, said
 
 
 def tried(work, folder, name):
