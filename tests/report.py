@@ -337,10 +337,10 @@ def main():
                      f'{counts["public"]} can be called from outside their part, {counts["for C"]} of them from C.',
                      f'{counts["asking"]} of these ask something of their caller.' if counts['asking'] else 'None of these asks anything of its caller.')
     out += ['## The three demands', '']
-    out += paragraph('They stand on one page, as statements about the bytes that a controller has, in `crates/theorems/specs/Demands.antt`; each names its proof.')
+    out += paragraph('They stand on one page, as statements about the bytes that a controller has, in `crates/theorems/proofs/Demands.antt`; each names its proof.')
     out += demands
     out += paragraph("The customer's own cases A to M (`docs/RULES.md`, section 14) are proved to follow from the definitions, in one statement (`marked_cases` in",
-                     '`crates/cases/specs/Marked.antt`). So a definition that reads a rule wrongly at one of these cases would not have passed. A second table, our own, does the',
+                     '`crates/cases/proofs/Marked.antt`). So a definition that reads a rule wrongly at one of these cases would not have passed. A second table, our own, does the',
                      'same for every refusal number with every reason for it (`second_cases_lem` in `crates/cases/specs/Second.antt`).')
     out += ['## Part by part', '']
     out += table(['part', '>functions proved', '>definitions', '>statements proved', '>wrong edits refused'], rows)
