@@ -18,13 +18,9 @@ that the archive is faster.
 
 PAGE
 load=$(cut -d ' ' -f 1 /proc/loadavg)
-if [ -z "$run" ]; then
-    echo "This run: x86-64, $(nproc) cores; $load programs ran on them on average in the minute before."
-else
-    echo "This run: x86-64 code in an emulator on $(uname -m), $(nproc) cores, so that only the ratios say something; $load programs ran on average in the minute before."
-fi
+echo "This run: x86-64, $(nproc) cores; $load programs ran on them on average in the minute before."
 echo
-$run target/bench/bench examples/flight.plan examples/case_a.plan
+target/bench/bench examples/flight.plan examples/case_a.plan
 [ "${STAND_IN:-0}" = 1 ] && exit
 
 cat <<PAGE
@@ -36,7 +32,7 @@ that there is no cycle, job after job is searched, each search at the cost of it
 
 PAGE
 $cc -O2 bench/slow.c bench/plain.c "$archive" -o target/bench/slow
-$run target/bench/slow
+target/bench/slow
 
 sections=$($size -A "$archive")
 # bytes PATTERN: the bytes of all sections whose name begins so.

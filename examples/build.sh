@@ -1,7 +1,6 @@
 #!/usr/bin/env bash
 # Builds the executive over the proved archive, and plays it on the plan files named, else on every one here.
 #   examples/build.sh [PLAN..]         STAND_IN=1 takes the plain C of bench/ in the archive's place, so that it can be tried without a proof
-# Off x86-64 it is built for x86-64 all the same, as the archive is, and run in the kit's emulator.
 set -eu
 cd "$(dirname "$0")/.."
 mkdir -p target/examples
@@ -11,5 +10,5 @@ $cc -O2 examples/executive.c $with -o target/examples/executive
 [ $# -gt 0 ] || set -- examples/*.plan
 for plan; do
     echo "== $plan"
-    $run target/examples/executive "$plan"
+    target/examples/executive "$plan"
 done

@@ -1,4 +1,4 @@
-"""How an edit is applied, for tests/definitions/run.py and tests/edits/run.py, and the functions that its comment names.
+"""How an edit is applied, for tests/definitions/run.py and tests/edits/run.py, and the functions that its comment names; and the crates of crates.txt.
 
 An edit is a text with a comment and with `file:`, `old:` and `new:` lines, as the toolchain's must-fail edits have them: a `file:` line holds for the
 pairs of `old:` and `new:` after it, and each old text must stand exactly once in the file, as the pairs before it left it.
@@ -7,6 +7,18 @@ import os, re
 
 # `# of NAME: ` or `# of NAME, NAME: ` before the sentence: the public functions whose answers the edit makes wrong.
 NAMED = re.compile(r'# of (\w+(?:::\w+)*(?:, \w+(?:::\w+)*)*): ')
+
+
+def listed(top):
+    """The crates of crates.txt in their order, each with those that it names."""
+    crates = {}
+    with open(os.path.join(top, 'crates.txt'), encoding='utf-8') as f:
+        for line in f:
+            head, _, below = line.split('#')[0].partition(':')
+            # behind the name stand words about the crate, as `staticlib`
+            if head.split():
+                crates[head.split()[0]] = below.split()
+    return crates
 
 
 def change(where, path):

@@ -10,11 +10,15 @@ passed=0 failed=0
 
 give_up() { echo "$1"; echo '0 passed, 1 failed'; exit 1; }
 
-rt staticlib flute || give_up 'the archive is not built'
-echo 'proving and building the programs: some minutes where nothing has been proved'
-programs=(tests/runs/*)
-rt check "${programs[@]##*/}" >"$out/programs.log" 2>&1 || { cat "$out/programs.log"; give_up 'the programs are not built'; }
+root=.
 . tests/platform.sh
+. tests/programs.sh
+(with=$archive; build_archive "$out") || give_up 'the archive is not built'
+echo 'proving and building the programs: some minutes where nothing has been proved'
+for name in tests/runs/*; do
+    name=${name##*/}
+    is_current "$name" || build "$name" >"$out/programs.log" || { cat "$out/programs.log"; give_up "$name is not built"; }
+done
 for program in vectors largest periods random; do
     $cc -O2 tests/$program.c bench/plain.c $archive -o "$out/$program" || give_up "$program is not built"
 done
@@ -68,29 +72,29 @@ ends() {
 # A file of vectors is named by its kind, behind the number of a request where it came with one.
 vectors=(103-reader 102-judge 103-judge 105-screen 105-adjusted step 103-step 101-write 103-write)
 for name in "${vectors[@]}"; do
-    count "plain C, $name" $run "$out/vectors_plain" "${name#*-}" "tests/vectors/$name.txt"
+    count "plain C, $name" "$out/vectors_plain" "${name#*-}" "tests/vectors/$name.txt"
 done
 for name in "${vectors[@]}"; do
-    count "archive, $name" $run "$out/vectors" "${name#*-}" "tests/vectors/$name.txt"
+    count "archive, $name" "$out/vectors" "${name#*-}" "tests/vectors/$name.txt"
 done
-count 'archive, largest plans' $run "$out/largest"
-count 'archive, periods two by two' $run "$out/periods"
-count 'archive against plain C, random cases' $run "$out/random" 300000
+count 'archive, largest plans' "$out/largest"
+count 'archive, periods two by two' "$out/periods"
+count 'archive against plain C, random cases' "$out/random" 300000
 
 # The example on every plan file: examples/NAME.out is what it prints.
 same=0 other=0
 for plan in examples/*.plan; do
-    stored "plain C, $plan" "${plan%.plan}.out" $run "$out/executive_plain" "$plan"
-    stored "archive, $plan" "${plan%.plan}.out" $run "$out/executive" "$plan"
+    stored "plain C, $plan" "${plan%.plan}.out" "$out/executive_plain" "$plan"
+    stored "archive, $plan" "${plan%.plan}.out" "$out/executive" "$plan"
 done
 # A refusal shows its number and evidence, of 22 all five.
-stored 'the example on case E' <(echo 'flute_judge refuses by 22, evidence 0 2 4 20 23') $run "$out/executive" tests/runs/flute_judge/case_e.in
+stored 'the example on case E' <(echo 'flute_judge refuses by 22, evidence 0 2 4 20 23') "$out/executive" tests/runs/flute_judge/case_e.in
 echo "example executive: $same passed, $other failed"
 
 # The charts that stand beside the examples.
 same=0 other=0
 for chart in examples/*.chart; do
-    stored "the chart of ${chart%.chart}" "$chart" $run_kit target/bin/flute_show "${chart%.chart}.plan"
+    stored "the chart of ${chart%.chart}" "$chart" "$(program_at flute_show)" "${chart%.chart}.plan"
 done
 echo "charts of examples: $same passed, $other failed"
 
@@ -101,9 +105,9 @@ for input in tests/runs/*/*.in; do
     program=$(basename "$(dirname "$input")")
     base=${input%.in}
     if [ -e "$base.reports" ]; then
-        stored "$program on $input" "$base.out" $run_kit target/bin/"$program" "$input" "$base.reports"
+        stored "$program on $input" "$base.out" "$(program_at "$program")" "$input" "$base.reports"
     else
-        stored "$program on $input" "$base.out" $run_kit target/bin/"$program" <"$input"
+        stored "$program on $input" "$base.out" "$(program_at "$program")" <"$input"
     fi
 done
 echo "stored runs of programs: $same passed, $other failed"
@@ -111,18 +115,18 @@ echo "stored runs of programs: $same passed, $other failed"
 # Files that a program makes: a copy is the file, byte for byte, and says so; a damaged file leaves what was there.
 same=0 other=0
 for plan in examples/*.plan; do
-    stored "a copy of $plan" <(echo "0 $(wc -c <"$plan") written: the bytes are the same") $run_kit target/bin/flute_copy "$plan" "$out/copy"
+    stored "a copy of $plan" <(echo "0 $(wc -c <"$plan") written: the bytes are the same") "$(program_at flute_copy)" "$plan" "$out/copy"
     stored "a copy of $plan" "$plan" cat "$out/copy"
 done
 echo 'as it was' >"$out/copy"
-stored 'a copy of a damaged file' tests/runs/flute_copy/left_over.out $run_kit target/bin/flute_copy tests/runs/flute_copy/left_over.in "$out/copy"
+stored 'a copy of a damaged file' tests/runs/flute_copy/left_over.out "$(program_at flute_copy)" tests/runs/flute_copy/left_over.in "$out/copy"
 stored 'a copy of a damaged file' <(echo 'as it was') cat "$out/copy"
 rm "$out/copy"
-stored 'a copy of an empty file' tests/runs/flute_copy/empty.out $run_kit target/bin/flute_copy tests/runs/flute_copy/empty.in "$out/copy"
+stored 'a copy of an empty file' tests/runs/flute_copy/empty.out "$(program_at flute_copy)" tests/runs/flute_copy/empty.in "$out/copy"
 ends 1 test -e "$out/copy"
 echo "files that programs make: $same passed, $other failed"
 
-count 'source 003, adjusted times' env RUN="$run_kit" python3 tests/tables.py
+count 'source 003, adjusted times' python3 tests/tables.py
 
 # The entry for people runs a program on a file. It ends with 1 after a refusal or finding and with 2 on wrong use; its progress, where it builds first, is on
 # standard error.

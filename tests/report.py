@@ -12,7 +12,7 @@ import sys
 import textwrap
 
 sys.dont_write_bytecode = True
-from edit import NAMED
+from edit import NAMED, listed
 
 TOP = os.path.join(os.path.dirname(os.path.abspath(__file__)), '..')
 
@@ -22,55 +22,55 @@ DEMANDS = [
 Whatever bytes a call is handed, and however many, it comes to an end, touches only what it was lent, loses nothing in a sum or a product, and gives exactly the
 answer that the rules (`docs/RULES.md`) prescribe: this number with this evidence, and no other. A call from C that refuses leaves every byte that it was lent as
 it was. This is proved function by function, for every input there is.''',
-     [('theorems/specs/Demands.antt', 'start-refused', 'a start that is refused leaves the state as it is'),
-      ('theorems/specs/Demands.antt', 'step-refused', 'and a step that is refused state and output'),
-      ('theorems/specs/Demands.antt', 'times-refused', 'and a refused call for adjusted times both buffers'),
-      ('theorems/specs/Demands.antt', 'write-refused', 'and a refused call that writes a file its buffer'),
-      ('theorems/specs/FileMeaning.antt', 'read-exactly', 'the bytes that are read are exactly those that a right set and a plan of its size are written as'),
-      ('theorems/specs/FileMeaning.antt', 'read-write', 'what was written is read as the same set and plan'),
-      ('theorems/specs/FileMeaning.antt', 'write-read', 'what was read is written as the same bytes'),
-      ('flute/specs/Calls.antt', 'start-once', 'for a start from C only one number and one state are allowed'),
-      ('flute/specs/Calls.antt', 'step-once', 'for a step from C only one number, one state and one output'),
-      ('dispatcher/specs/Outcome.antt', 'one-outcome', 'for a step only one answer, one next state and one output are allowed'),
-      ('screen/specs/Written.antt', 'answered-once', 'for adjusted times only one answer and one content of both buffers are allowed'),
-      ('reader/proofs/ReadLaws.antt', 'read-sound', 'tasks that are read keep every limit'),
-      ('reader/proofs/ReadLaws.antt', 'read-long', 'a plan that is read has a slot for every tick and processor'),
-      ('reader/proofs/ReadLaws.antt', 'read-slots', 'a plan that is read names no unknown task')]),
+     [('theorems/proofs/Demands.antt', 'start_refused', 'a start that is refused leaves the state as it is'),
+      ('theorems/proofs/Demands.antt', 'step_refused', 'and a step that is refused state and output'),
+      ('theorems/proofs/Demands.antt', 'times_refused', 'and a refused call for adjusted times both buffers'),
+      ('theorems/proofs/Demands.antt', 'write_refused', 'and a refused call that writes a file its buffer'),
+      ('theorems/specs/FileMeaning.antt', 'read_exactly', 'the bytes that are read are exactly those that a right set and a plan of its size are written as'),
+      ('theorems/specs/FileMeaning.antt', 'read_write', 'what was written is read as the same set and plan'),
+      ('theorems/specs/FileMeaning.antt', 'write_read', 'what was read is written as the same bytes'),
+      ('flute/specs/Calls.antt', 'start_once', 'for a start from C only one number and one state are allowed'),
+      ('flute/specs/Calls.antt', 'step_once', 'for a step from C only one number, one state and one output'),
+      ('dispatcher/specs/Outcome.antt', 'one_outcome', 'for a step only one answer, one next state and one output are allowed'),
+      ('screen/specs/Written.antt', 'answered_once', 'for adjusted times only one answer and one content of both buffers are allowed'),
+      ('reader/proofs/ReadLaws.antt', 'read_sound', 'tasks that are read keep every limit'),
+      ('reader/proofs/ReadLaws.antt', 'read_long', 'a plan that is read has a slot for every tick and processor'),
+      ('reader/proofs/ReadLaws.antt', 'read_slots', 'a plan that is read names no unknown task')]),
     ('Demand 2: accepted means right for ever, and nothing right is turned away', '''
 The judge says yes exactly to the plans whose endless repetition gives every job its full running time between its release and its deadline, gives it no tick
 outside, never runs it on two processors at once, and keeps every order that is asked for. To any other plan it says no, names the first rule that is broken, and
 shows where. The screen reports a set of tasks only with a true finding, and then no plan for these tasks is ever accepted.''',
-     [('theorems/specs/Demand2.antt', 'judge-accepts', 'the judge says yes exactly to such plans'),
-      ('theorems/specs/Demand2.antt', 'accepted-iff', 'the same for any bytes at all, of the right length or not'),
-      ('theorems/specs/Demand2.antt', 'first-rule', 'otherwise it names the first broken rule, at the lowest place'),
-      ('theorems/specs/Demand2.antt', 'one-verdict', 'no second verdict would be as right'),
-      ('theorems/specs/Demands.antt', 'judge-shows-ticks', 'where a job gets too few ticks or too many, it shows how many, and when the first and the last of them fall'),
-      ('theorems/specs/Demands.antt', 'start-shows-same', 'and a start answers and shows the same'),
-      ('theorems/specs/NextRound.antt', 'gets-next', 'where a job waits for one of the round before, over the end of a cycle too, its ticks are those of the job that it repeats, a cycle later'),
-      ('theorems/specs/BothWays.antt', 'both-ways-not-found', 'two tasks that wait for each other, one of the two always for the round before, are not taken for a circle'),
-      ('theorems/specs/NextRound.antt', 'same-verdict', 'the edition of a file changes nothing else: a set that two editions allow gets the same verdict in both'),
-      ('theorems/specs/ScreenTrue.antt', 'finding-true', 'what the screen finds is so'),
-      ('theorems/specs/Accepted.antt', 'finding-is-final', 'after a finding no plan for these tasks is accepted'),
-      ('theorems/specs/OldReleases.antt', 'same-findings', 'that a job waits until those before it have had time to run changes no finding but which job is named'),
-      ('theorems/specs/Demand2Bytes.antt', 'judged-zero', 'all this for the bytes that a controller hands to the judge'),
-      ('theorems/specs/ShutOut.antt', 'not-repeat', 'a judge that always says the same would not do')]),
+     [('theorems/specs/Demand2.antt', 'judge_accepts', 'the judge says yes exactly to such plans'),
+      ('theorems/specs/Demand2.antt', 'accepted_iff', 'the same for any bytes at all, of the right length or not'),
+      ('theorems/specs/Demand2.antt', 'first_rule', 'otherwise it names the first broken rule, at the lowest place'),
+      ('theorems/specs/Demand2.antt', 'one_verdict', 'no second verdict would be as right'),
+      ('theorems/proofs/Demands.antt', 'judge_shows_ticks', 'where a job gets too few ticks or too many, it shows how many, and when the first and the last of them fall'),
+      ('theorems/proofs/Demands.antt', 'start_shows_same', 'and a start answers and shows the same'),
+      ('theorems/specs/NextRound.antt', 'gets_next', 'where a job waits for one of the round before, over the end of a cycle too, its ticks are those of the job that it repeats, a cycle later'),
+      ('theorems/specs/BothWays.antt', 'both_ways_not_found', 'two tasks that wait for each other, one of the two always for the round before, are not taken for a circle'),
+      ('theorems/specs/NextRound.antt', 'same_verdict', 'the edition of a file changes nothing else: a set that two editions allow gets the same verdict in both'),
+      ('theorems/specs/ScreenTrue.antt', 'finding_true', 'what the screen finds is so'),
+      ('theorems/proofs/Accepted.antt', 'finding_is_final', 'after a finding no plan for these tasks is accepted'),
+      ('theorems/specs/OldReleases.antt', 'same_findings', 'that a job waits until those before it have had time to run changes no finding but which job is named'),
+      ('theorems/proofs/Demand2Bytes.antt', 'judged_zero', 'all this for the bytes that a controller hands to the judge'),
+      ('theorems/specs/ShutOut.antt', 'not_repeat', 'a judge that always says the same would not do')]),
     ('Demand 3: a right plan is rightly played', '''
 From an accepted plan, for any number of ticks and whatever finishes early: every job whose deadline has passed, and that was not heard to finish before its last
 planned tick, has had exactly its planned ticks. No job gets more, or any after it is heard to finish. None runs before the ticks of those that it waits for are
 over. What one task reports changes no tick of another.''',
-     [('theorems/specs/Accepted.antt', 'accepted-plays', 'whatever the judge accepts is a plan of which the following holds'),
-      ('theorems/specs/Demand3.antt', 'goes-on', 'no rightly made step is ever refused, however many went before'),
-      ('theorems/specs/Demand3.antt', 'refused-is-none', 'a refused step is as if it had not been made'),
-      ('theorems/specs/Demand3.antt', 'all-planned', 'a job that did not finish early has had all its planned ticks at its deadline'),
-      ('theorems/specs/Demand3.antt', 'all-running', 'and they are its full running time'),
-      ('theorems/specs/Demand3.antt', 'never-more', 'no job gets more ticks than are planned'),
-      ('theorems/specs/Demand3.antt', 'none-after', 'or any after it is heard to finish'),
-      ('theorems/specs/Demand3.antt', 'in-order', 'no job runs before those that it waits for are over, also from one cycle into the next'),
-      ('theorems/specs/Demand3.antt', 'own-reports-only', "other tasks' early finishes change nothing for a task"),
-      ('theorems/specs/Demand3Shown.antt', 'shown-once', 'no task is shown on two processors in one tick'),
-      ('theorems/specs/Demands.antt', 'every-play-keeps', 'all of this holds of the rows that the controller gets from its calls, however many, refused ones among them'),
-      ('theorems/specs/Demands.antt', 'own-reports-decide', 'the last of it too'),
-      ('theorems/specs/Demand3Bytes.antt', 'refused-in-bytes', 'and a refused step leaves state and output as they are, whatever they were')]),
+     [('theorems/proofs/Accepted.antt', 'accepted_plays', 'whatever the judge accepts is a plan of which the following holds'),
+      ('theorems/proofs/Demand3.antt', 'goes_on', 'no rightly made step is ever refused, however many went before'),
+      ('theorems/proofs/Demand3.antt', 'refused_is_none', 'a refused step is as if it had not been made'),
+      ('theorems/proofs/Demand3.antt', 'all_planned', 'a job that did not finish early has had all its planned ticks at its deadline'),
+      ('theorems/proofs/Demand3.antt', 'all_running', 'and they are its full running time'),
+      ('theorems/proofs/Demand3.antt', 'never_more', 'no job gets more ticks than are planned'),
+      ('theorems/proofs/Demand3.antt', 'none_after', 'or any after it is heard to finish'),
+      ('theorems/proofs/Demand3.antt', 'in_order_lem', 'no job runs before those that it waits for are over, also from one cycle into the next'),
+      ('theorems/proofs/Demand3.antt', 'own_reports_only', "other tasks' early finishes change nothing for a task"),
+      ('theorems/proofs/Demand3Shown.antt', 'shown_once', 'no task is shown on two processors in one tick'),
+      ('theorems/proofs/Demands.antt', 'every_play_keeps', 'all of this holds of the rows that the controller gets from its calls, however many, refused ones among them'),
+      ('theorems/proofs/Demands.antt', 'own_reports_decide', 'the last of it too'),
+      ('theorems/proofs/Demand3Bytes.antt', 'refused_in_bytes', 'and a refused step leaves state and output as they are, whatever they were')]),
 ]
 
 NOT_COVERED = '''
@@ -100,7 +100,8 @@ def files(folder, ending):
 
 def law_files(crate):
     """The files of laws that stand among a crate's proofs."""
-    return [path for path in files(f'crates/{crate}/proofs', '.antt') if os.path.basename(path) not in ('Proof.antt', 'Lib.antt')]
+    of_functions = ('Proof.antt', 'Answers.antt', 'Invariants.antt', 'Lib.antt')
+    return [path for path in files(f'crates/{crate}/proofs', '.antt') if os.path.basename(path) not in of_functions]
 
 
 # ---- the tree
@@ -146,15 +147,6 @@ def statements(path):
     return found
 
 
-def crates_listed():
-    names = []
-    for line in read('crates.txt').split('\n'):
-        line = line.split('#')[0].strip()
-        if ':' in line:
-            names.append(line.split(':')[0].strip())
-    return names
-
-
 def edits(*folders):
     """Every edit in some folders by its label, with the sentence that it begins with, behind the functions that it is of, or else its label in words."""
     found = {}
@@ -167,12 +159,12 @@ def edits(*folders):
 
 
 def wrong_edits(crate):
-    """The edits of a crate: those that `rt ci` tries, and those that are tried over a warm cache."""
+    """The edits of a crate: those that `rt ci` tries, and those that tests/edits/run.py has tried."""
     return edits(f'crates/{crate}/must-fail', f'tests/edits/{crate}')
 
 
 # ---- the log
-PARTS = ('layout', 'proofs', 'changed definitions', 'edits', 'outside')
+PARTS = ('proofs', 'changed definitions', 'edits', 'outside')
 CLOSING = re.compile(r'(\d+) passed, (\d+) failed$')
 
 
@@ -203,20 +195,22 @@ def table(head, rows):
 
 
 def proofs_section(lines, tried, crates):
-    proved = {m[1]: int(m[2]) for m in (re.match(r'rt: (\w+) proved \((\d+) s\)', x) for x in lines) if m}
+    proved = {m[1] for m in (re.match(r'rt: (\w+) proved$', x) for x in lines) if m}
+    # what an earlier run proved of the very same files is kept, and its functions are not shown again
+    kept = {m[1] for m in (re.match(r'rt: (\w+) is kept: an earlier run on this machine proved the same files', x) for x in lines) if m}
     shown = {(m[1], m[2]) for m in (re.match(r'fn (\w+)::(\S+): proved$', x) for x in lines) if m}
     assumed, last = {}, None
     for x in lines:
         if x.startswith('logic=proved '):
             last = re.search(r' axioms=(\d+)', x)
-        named = re.match(r'rt: (\w+) (proved|ran)', x)
+        named = re.match(r'rt: (\w+) (proved$|ran )', x)
         if named and last:
             assumed[named[1]] = int(last[1])
         if named:
             last = None
-    ran = [m[1] for m in (re.match(r'rt: (\w+) ran.*and wrote what', x) for x in lines) if m]
-    proved.update({name: proved.get(name, 0) for name in ran})
-    refused = {(m[1], m[2]) for m in (re.match(r'rt: must-fail (\w+)/(\w+): refused, as it must be', x) for x in lines) if m}
+    # each is run twice, as two compilers build it
+    ran = sorted({m[1] for m in (re.match(r'rt: (\w+) ran\b.*and wrote what', x) for x in lines) if m}, key=crates.index)
+    refused = {(m[1], m[2]) for m in (re.match(r'rt: must-fail (\w+)/([\w.-]+)\.edit: refused, as it must be', x) for x in lines) if m}
     refused |= {(m[1], m[2]) for m in (re.match(r'(\w+)/(\w+): refused at ', x) for x in tried) if m}
     for x in lines + tried:
         if re.search(r'NOT PROVED|NOT REFUSED|BAD EDIT|NO FAILED FACT|NOT TRIED|NO PUBLIC CONTRACT|only \d+ edits|its run FAILED|^rt: FAILED', x):
@@ -226,7 +220,9 @@ def proofs_section(lines, tried, crates):
     for crate in crates:
         fns = functions(crate)
         seen = sum(1 for c, _ in shown if c == crate)
-        if crate not in proved:
+        if crate in kept:
+            seen = len(fns)
+        if crate not in proved | kept:
             problems.append(f'The log does not say that `{crate}` is proved.')
         elif seen != len(fns):
             problems.append(f'`{crate}` has {len(fns)} functions, and the log shows {seen} as proved.')
@@ -311,7 +307,7 @@ def main():
         sys.exit('report.py LOG')
     with open(sys.argv[1], encoding='utf-8', errors='replace') as f:
         lines = [x.rstrip('\n') for x in f]
-    parts, crates = parts_of(lines), crates_listed()
+    parts, crates = parts_of(lines), list(listed(TOP))
     end = CLOSING.match(lines[-1]) if lines else None
     if not end:
         problems.append("The log's last line is not 'N passed, M failed': the run did not come to its end.")
@@ -341,11 +337,11 @@ def main():
                      f'{counts["public"]} can be called from outside their part, {counts["for C"]} of them from C.',
                      f'{counts["asking"]} of these ask something of their caller.' if counts['asking'] else 'None of these asks anything of its caller.')
     out += ['## The three demands', '']
-    out += paragraph('They stand on one page, as statements about the bytes that a controller has, in `crates/theorems/specs/Demands.antt`; each names its proof.')
+    out += paragraph('They stand on one page, as statements about the bytes that a controller has, in `crates/theorems/proofs/Demands.antt`; each names its proof.')
     out += demands
-    out += paragraph("The customer's own cases A to M (`docs/RULES.md`, section 14) are proved to follow from the definitions, in one statement (`marked-cases` in",
-                     '`crates/cases/specs/Marked.antt`). So a definition that reads a rule wrongly at one of these cases would not have passed. A second table, our own, does the',
-                     'same for every refusal number with every reason for it (`second-cases` in `crates/cases/specs/Second.antt`).')
+    out += paragraph("The customer's own cases A to M (`docs/RULES.md`, section 14) are proved to follow from the definitions, in one statement (`marked_cases` in",
+                     '`crates/cases/proofs/Marked.antt`). So a definition that reads a rule wrongly at one of these cases would not have passed. A second table, our own, does the',
+                     'same for every refusal number with every reason for it (`second_cases_lem` in `crates/cases/specs/Second.antt`).')
     out += ['## Part by part', '']
     out += table(['part', '>functions proved', '>definitions', '>statements proved', '>wrong edits refused'], rows)
     total = [sum(r[k] for r in rows) for k in range(1, 5)]

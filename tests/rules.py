@@ -14,7 +14,7 @@ LINK = re.compile(r'\[[^\]]+\]\(\.\./(crates/[^)]+)\)(: (?:`[^`]+`(?:, )?)+)?')
 NUMBER = re.compile(r'\bR\d+\.\d+\b')
 # The constants of the header, and where each comes from: the file, and what stands before the number there.
 HEADER = {
-    'FLUTE_LONGEST_FILE': ('crates/theorems/specs/FileParts.antt', r'^pub longest-file : .* length file ≤ '),
+    'FLUTE_LONGEST_FILE': ('crates/theorems/specs/FileParts.antt', r'^pub longest_file : .* length file ≤ '),
     'FLUTE_MOST_TASKS': ('crates/kinds/src/lib.rt', r'^    pub const MOST_TASKS: usize = '),
     'FLUTE_MOST_PROCESSORS': ('crates/kinds/src/lib.rt', r'^    pub const MOST_PROCESSORS: u32 = '),
     'FLUTE_LONGEST_CYCLE': ('crates/kinds/src/lib.rt', r'^    pub const LONGEST: u32 = '),

@@ -7,4 +7,4 @@ mkdir -p target/outside
 . tests/platform.sh
 build_archive target/outside
 $cc -O3 tests/soak.c $with -o target/outside/soak
-time $run target/outside/soak "$@"
+time target/outside/soak "$@"

@@ -42,7 +42,8 @@ DEADLINES = {'FDIR': 95, 'GNC_DS': 980, 'Gyro Acq': 85, 'GPS Acq': 280}
 def adjusted(name):
     """A list of (release, deadline) in ms for each task, by its number."""
     path = os.path.join(ROOT, 'tests', 'runs', 'flute_adjust', name + '.in')
-    lines = subprocess.run(os.environ.get('RUN', '').split() + [os.path.join(ROOT, 'target', 'bin', 'flute_adjust'), path], capture_output=True, text=True, check=True).stdout.splitlines()
+    program = os.path.join(ROOT, 'crates', 'flute_adjust', 'out', 'flute_adjust')
+    lines = subprocess.run([program, path], capture_output=True, text=True, check=True).stdout.splitlines()
     if not lines or lines[0].split()[0] != '0':
         sys.exit('flute_adjust on %s: %s\n0 passed, 1 failed' % (name, lines[:1]))
     jobs = {}
