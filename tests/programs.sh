@@ -14,11 +14,12 @@ is_current() (
     exit 0
 )
 
-# `rt run` builds, and then runs the program, here on no input. Beside a program that is built it leaves a stamp, and where nothing has changed it leaves the
-# program as it is: so this build's time is set on it.
+# `rt run` builds, and then runs the program, here on no input. Beside a program that is built it leaves a stamp: an older one is taken away first, so that one
+# is there only if this build came to its end.
 build() {
     local built
     built=$(program_at "$1")
+    rm -f "$built.stamp"
     (cd "$root/crates/$1" && rt run </dev/null 2>&1 >/dev/null)
     [[ -x $built && -e $built.stamp ]] && touch "$built"
 }

@@ -29,7 +29,7 @@ pub struct Found {
     // The lowest job on a cycle, or the lowest that is too tight: its task, and its place among the task's jobs.
     pub task: u32,
     pub job: u32,
-    // The sum of C·H/T, and typeof.m.H.
+    // The sum of C·H/T, and m·H.
     pub load: u32,
     pub room: u32,
 }

@@ -20,7 +20,7 @@ pub enum Finding {
     BadSet,
     // Task and job.
     Cycle(u32, u32),
-    // The sum of C·H/T, and typeof.m.H.
+    // The sum of C·H/T, and m·H.
     Overload(u32, u32),
     // Task and job.
     TooTight(u32, u32),
