@@ -239,7 +239,7 @@ def proofs_section(lines, tried, crates):
         counts['definitions'] += definitions
         counts['laws'] += laws
         rows.append((f'`{crate}`', seen, definitions, laws, sum((crate, x) in refused for x in wrong)))
-    return counts, rows, refused, ran, assumed
+    return counts, rows, refused, ran, assumed, [x for x in crates if x in kept]
 
 
 def demand_sections():
@@ -316,7 +316,7 @@ def main():
     for name in PARTS:
         if name not in parts:
             problems.append(f"The log has no part '{name}'.")
-    counts, rows, refused, ran, assumed = proofs_section(parts.get('proofs', []), parts.get('edits', []), crates)
+    counts, rows, refused, ran, assumed, kept = proofs_section(parts.get('proofs', []), parts.get('edits', []), crates)
     demands = demand_sections()
     wrong = edit_sections(refused, parts.get('changed definitions', []), crates)
     cases = outside_section(parts.get('outside', []))
@@ -350,7 +350,10 @@ def main():
         out += ['Programs that were proved, and run on a stored input: ' + ', '.join(f'`{x}`' for x in ran) + '.', '']
     if assumed:
         out += paragraph('Parts that rest on assumptions about the system they run on, which nobody proves, with their number:',
-                         ', '.join(f'`{x}` {n}' for x, n in assumed.items()) + '. The others rest on none.')
+                         ', '.join(f'`{x}` {n}' for x, n in assumed.items()) + '. The others that this run proved rest on none.')
+    if kept:
+        out += paragraph('Parts that an earlier run had proved of the very same files, so that this run kept that and its log says nothing of what they rest on:',
+                         ', '.join(f'`{x}`' for x in kept) + '.')
     out += wrong + cases + ['## What is not covered', '', NOT_COVERED.strip(), '']
     print('\n'.join(out), end='')
     return 1 if problems else 0

@@ -40,7 +40,7 @@ fn arg(rt: &impl Env, i: usize, buf: &mut [u8]) -> usize
     }
 }
 
-// The text of a path, which std wants in UTF-8.
+// The text of a path: std wants it in UTF-8, and another path is refused like that of a file that cannot be opened.
 fn path_text(path: &[u8]) -> Result<&str> {
     match str::from_utf8(path) {
         Ok(text) => Ok(text),
