@@ -1,10 +1,10 @@
 -- Laws of the definitions in specs/Least.antt.
-use Rattle.std.specs.Prelude.{◌≡◌, refl, Bool, true, false, not, ◌&&◌, ◌||◌, ◌⊎◌, ℕ, zero, suc, ◌+◌, ◌≤◌, ◌<◌}
+use Rattle.std.specs.Prelude.{◌≡◌, refl, Bool, true, false, not, ◌&&◌, ◌||◌, ◌⊎◌, ℕ, zero, suc, ◌+◌, ◌≤◌, ◌<◌, Some, None}
 use Rattle.std.proofs.Common.{sym, ap, ◌∙◌, inl, inr, ⊎_elim, eq-or-lt_of_le, le_of_suc-le-suc, arith, below_none, below_more, ltb-true, ltb-false, lt-ltb, le-ltb}
 use Rattle.std.proofs.lemmas.Bool.{not-true, not-false}
 use Rattle.vocabulary.specs.Test.{pick}
 use Rattle.vocabulary.proofs.Test.{clash, lt_or_le}
-use Rattle.vocabulary.specs.Least.{past, least, Least, some, Seeking, all, Passing, greatest}
+use Rattle.vocabulary.specs.Least.{past, least, Least, some, lowest, Seeking, all, Passing, greatest}
 
 up : (f : ℕ → Bool) (n r : ℕ) → Least f n r → (b : Bool) → f r ≡ b → Least f (suc n) (past b r)
 up f n r p true e = record { within = omega arith; before = p.before; found = λ h. e }
@@ -63,6 +63,44 @@ hit f n i s e = least_only f n i (record { within = s.within; before = s.before;
 
 pub miss : (f : ℕ → Bool) (n i : ℕ) → Seeking f n i → n ≤ i → i ≡ least f n
 miss f n i s l = least_only f n i (record { within = s.within; before = s.before; found = λ h. absurd (omega arith) })
+
+-- the same for the number as an option: a search that finds it, and one that comes to the end
+pub found : (f : ℕ → Bool) (n i : ℕ) → Seeking f n i → i < n → f i ≡ true → Some i ≡ lowest f n
+unfolding lowest
+found f n i s l e = let z : i ≡ least f n = hit f n i s e in rw (some_yes f n i l e, ← z)
+
+pub nowhere : (f : ℕ → Bool) (n i : ℕ) → Seeking f n i → n ≤ i → None ≡ lowest f n
+unfolding lowest
+nowhere f n i s l = rw (none f n λ k h. s.before k (omega arith))
+
+-- by the number itself: it is n where there is none
+pub lowest_some : (f : ℕ → Bool) (n i : ℕ) → i ≡ least f n → i < n → Some i ≡ lowest f n
+unfolding lowest
+lowest_some f n i e l = rw (← e, lt-ltb i n l)
+
+pub lowest_none : (f : ℕ → Bool) (n i : ℕ) → i ≡ least f n → n ≤ i → None ≡ lowest f n
+unfolding lowest
+lowest_none f n i e l = rw (← e, le-ltb i n l)
+
+-- and back: what an answer says of the number
+pub some_least : (f : ℕ → Bool) (n i : ℕ) → Some i ≡ lowest f n → (i ≡ least f n) × (i < n) × (f i ≡ true)
+unfolding lowest
+some_least f n i e = by (some f n) refl e
+  where
+    by : (b : Bool) → some f n ≡ b → Some i ≡ pick b (Some (least f n)) None → (i ≡ least f n) × (i < n) × (f i ≡ true)
+    by true p q =
+        let z : i ≡ least f n = cc q in
+        let w = some_at f n p in
+        (z, rw z w.0, rw z w.1)
+    by false p q = let z : ◌≡◌ {A = ℕ} 0 1 = cc q in absurd (omega arith)
+
+pub none_least : (f : ℕ → Bool) (n : ℕ) → None ≡ lowest f n → (least f n ≡ n) × (some f n ≡ false)
+unfolding lowest
+none_least f n e = by (some f n) refl e
+  where
+    by : (b : Bool) → some f n ≡ b → None ≡ pick b (Some (least f n)) None → (least f n ≡ n) × (some f n ≡ false)
+    by true p q = let z : ◌≡◌ {A = ℕ} 0 1 = cc q in absurd (omega arith)
+    by false p q = let w = (least_is f n).within in let h : n ≤ least f n = ltb-false (least f n) n p in (omega arith, p)
 
 -- the test `some`, from a number that is known to be the least
 pub some_lt : (f : ℕ → Bool) (n r : ℕ) → r ≡ least f n → r < n → some f n ≡ true

@@ -1,5 +1,5 @@
 -- The least number below n that passes a test, or n where none does.
-use Rattle.std.specs.Prelude.{◌≡◌, Bool, true, false, not, ℕ, zero, suc, ◌≤◌, ◌<◌, ltb}
+use Rattle.std.specs.Prelude.{◌≡◌, Bool, true, false, not, ℕ, zero, suc, ◌≤◌, ◌<◌, ltb, Option, Some, None}
 use Rattle.vocabulary.specs.Test.{pick}
 
 abbrev pub past : Bool → ℕ → ℕ
@@ -20,6 +20,10 @@ pub record Least (f : ℕ → Bool) (n r : ℕ) : Type 0 where
 -- one below n passes
 abbrev pub some : (ℕ → Bool) → ℕ → Bool
 some f n = ltb (least f n) n
+
+-- that number, if one below n passes
+unfoldable pub lowest : (ℕ → Bool) → ℕ → Option ℕ
+lowest f n = pick (some f n) (Some (least f n)) None
 
 -- a search from 0 up to n that has come to i: what a loop's invariant says, and its four steps
 pub record Seeking (f : ℕ → Bool) (n i : ℕ) : Type 0 where
