@@ -1,6 +1,7 @@
 -- The walk over the patterns that tests them and adds up their links: what holds at each pattern, and its steps.
 use mathlib.Core.Path.{◌≡◌, refl, sym, ap, ap₂, ◌∙◌}
 use mathlib.Core.Bool.{Bool, true, false, not, ◌&&◌}
+use Rattle.std.specs.Prelude.{Some, None}
 use mathlib.Core.List.{List}
 use Prim.Native.Nat.{ℕ, ◌+◌, ◌*◌, ◌/◌, ◌<◌, ◌≤◌}
 use native.Mathlib.Nat.{le_trans, div-le_self, mul-le-mul_left, le_antisymm}
@@ -19,12 +20,11 @@ use Rattle.vocabulary.proofs.Multiple.{lcm_pos}
 use Rattle.kinds.specs.declared.Key.{Key}
 use Rattle.kinds.specs.declared.Spans.{Spans}
 use Rattle.kinds.specs.declared.Pattern.{Pattern}
-use Rattle.kinds.specs.declared.Tested.{Tested}
 use Rattle.kinds.specs.Limits.{rises, no_key, after}
 use Rattle.kinds.specs.Tasks.{Tasks, Patterns, period, from_task, to_task, pair_count, pairs_before, pattern_in, pattern_in_lem}
 use Rattle.kinds.specs.Links.{common, first_reach, reach, repeats, links_of, links, spans_of, links_in}
-use Rattle.kinds.specs.Sound.{pair_fits, pattern_key, heading_fits, pattern_fits, unfit, pattern_tested, PatternsTested, PatternsAsked}
-use Rattle.kinds.specs.RangeLaws.{holds_yes, holds_at, pairs_none, pairs_more}
+use Rattle.kinds.specs.Sound.{pair_fits, pattern_key, heading_fits, pattern_fits, pattern_tested, patterns_tested, PatternsAsked}
+use Rattle.kinds.specs.RangeLaws.{pick_some, pick_none, holds_yes, holds_at, pairs_none, pairs_more}
 
 -- ---- one pattern more
 pub pattern_key_none : (v : Patterns) → pattern_key v 0 ≡ no_key
@@ -140,7 +140,7 @@ module _ (e h : ℕ) (u : Tasks) (v : Patterns) (asked : PatternsAsked u v h) (k
 
 -- ---- the tests of one pattern: its heading fails; its pairs do; neither does
 module _ (e : ℕ) (u : Tasks) (h : ℕ) (ps : List ℕ) (low : Key) (used : ℕ) (p : Pattern) where
-  pub one_heading : heading_fits u.count low p.from p.to p.pairs used ≡ false → unfit ≡ pattern_tested e u h ps low used p
+  pub one_heading : heading_fits u.count low p.from p.to p.pairs used ≡ false → None ≡ pattern_tested e u h ps low used p
   unfolding pattern_tested
   one_heading a = rw a
 
@@ -149,18 +149,18 @@ module _ (e : ℕ) (u : Tasks) (h : ℕ) (ps : List ℕ) (low : Key) (used : ℕ
     spans_here : s ≡ spans_of e (period u p.from) (period u p.to)
     spans_here = spans ∙ ap₂ (λ (a b : ℕ). spans_of e (period u a) (period u b)) from to
 
-    pub one_pairs : all (pair_fits ps used s.first s.second) n ≡ false → unfit ≡ pattern_tested e u h ps low used p
+    pub one_pairs : all (pair_fits ps used s.first s.second) n ≡ false → None ≡ pattern_tested e u h ps low used p
     unfolding pattern_tested
     one_pairs b = rw (a, rw (spans_here, counted) at b)
 
     pub one_fits : all (pair_fits ps used s.first s.second) n ≡ true → {m : ℕ} → m ≡ links_in p.pairs h s.whole
-        → record { fits = true; links = m } ≡ pattern_tested e u h ps low used p
+        → Some m ≡ pattern_tested e u h ps low used p
     unfolding pattern_tested
     one_fits b q = rw (a, rw (spans_here, counted) at b, q, spans_here)
 
 -- what they say of pattern k of the walk
 module _ (e h : ℕ) (u : Tasks) (v : Patterns) (asked : PatternsAsked u v h) (k : ℕ) {low : Key} {used made : ℕ} (w : Walking e u v k low used made)
-    (l : k < v.count) {p : Pattern} (at : p ≡ pattern_in v.headings k) {r : Tested} (told : r ≡ pattern_tested e u h v.pairs low used p) where
+    (l : k < v.count) {p : Pattern} (at : p ≡ pattern_in v.headings k) where
   abbrev here : Pattern
   here = record { from = from_task v k; to = to_task v k; pairs = pair_count v k }
 
@@ -176,48 +176,45 @@ module _ (e h : ℕ) (u : Tasks) (v : Patterns) (asked : PatternsAsked u v h) (k
   abbrev pairs_test : Bool
   pairs_test = all (pair_fits v.pairs used spans_of_it.first spans_of_it.second) (pair_count v k)
 
-  abbrev passes : Tested
-  passes = record { fits = true; links = links_in (pair_count v k) h spans_of_it.whole }
-
-  told_here : r ≡ pick (heading_test && pairs_test) passes unfit
+  told_here : pattern_tested e u h v.pairs low used p ≡ pick (heading_test && pairs_test) (Some (links_in (pair_count v k) h spans_of_it.whole)) None
   unfolding pattern_tested
-  told_here = told ∙ ap (pattern_tested e u h v.pairs low used) here_is
+  told_here = ap (pattern_tested e u h v.pairs low used) here_is
 
-  both_tests : r.fits ≡ true → (heading_test ≡ true) × (pairs_test ≡ true) × (r.links ≡ links_in (pair_count v k) h spans_of_it.whole)
-  both_tests z = by heading_test pairs_test refl refl told_here
-    where
-      by : (a b : Bool) → heading_test ≡ a → pairs_test ≡ b → r ≡ pick (a && b) passes unfit
-          → (heading_test ≡ true) × (pairs_test ≡ true) × (r.links ≡ links_in (pair_count v k) h spans_of_it.whole)
-      by true true f g q = (f, g, ap (λ (x : Tested). x.links) q)
-      by true false f g q = clash z (ap (λ (x : Tested). x.fits) q)
-      by false b f g q = clash z (ap (λ (x : Tested). x.fits) q)
+  both_tests : {m : ℕ} → Some m ≡ pattern_tested e u h v.pairs low used p
+      → (heading_test ≡ true) × (pairs_test ≡ true) × (m ≡ links_in (pair_count v k) h spans_of_it.whole)
+  both_tests z =
+      let w = pick_some (heading_test && pairs_test) (z ∙ told_here) in
+      let b = both {a = heading_test} {b = pairs_test} w.0 in
+      (b.0, b.1, w.1)
 
-  pub walk_stop : r.fits ≡ false → pattern_fits e u v k ≡ false
-  walk_stop z = by heading_test pairs_test refl refl told_here
+  pub walk_stop : None ≡ pattern_tested e u h v.pairs low used p → pattern_fits e u v k ≡ false
+  walk_stop z = by heading_test pairs_test refl refl (pick_none (heading_test && pairs_test) _ (z ∙ told_here))
     where
-      by : (a b : Bool) → heading_test ≡ a → pairs_test ≡ b → r ≡ pick (a && b) passes unfit
-          → pattern_fits e u v k ≡ false
-      by true true f g q = clash (ap (λ (x : Tested). x.fits) q) z
+      by : (a b : Bool) → heading_test ≡ a → pairs_test ≡ b → (a && b) ≡ false → pattern_fits e u v k ≡ false
+      by true true f g q = clash refl q
       by true false f g q = walk_pairs e h u v asked k w l f refl refl refl refl false g
       by false b f g q = walk_heading e u v k w f
 
-  pub walk_facts : r.fits ≡ true → HeadingFacts u.count low p.from p.to p.pairs used
+  pub walk_facts : {m : ℕ} → Some m ≡ pattern_tested e u h v.pairs low used p → HeadingFacts u.count low p.from p.to p.pairs used
   walk_facts z = rw here_is (heading_facts u.count low (from_task v k) (to_task v k) (pair_count v k) used (both_tests z).0)
 
-  pub walk_turn : r.fits ≡ true → {n : ℕ} → n ≡ p.pairs → Walking e u v (k + 1) (after p.from p.to) (used + n) (made + r.links)
+  pub walk_turn : {m : ℕ} → Some m ≡ pattern_tested e u h v.pairs low used p → {n : ℕ} → n ≡ p.pairs
+      → Walking e u v (k + 1) (after p.from p.to) (used + n) (made + m)
   walk_turn z c =
       let b = both_tests z in
       let d = c ∙ ap (λ (x : Pattern). x.pairs) here_is in
       rw here_is (walk_on e h u v asked k w l b.0 refl refl refl d (rw d b.1) b.2)
 
 -- ---- what the walk answers
-pub tested_no : (e : ℕ) (u : Tasks) (v : Patterns) (k : ℕ) {r : Tested} → k < v.count → pattern_fits e u v k ≡ false → r.fits ≡ false → PatternsTested e u v r
-tested_no e u v k l f z = record { fits = z ∙ sym (all_fails (pattern_fits e u v) v.count k l f); links = λ t. clash t z }
+pub tested_no : (e : ℕ) (u : Tasks) (v : Patterns) (k : ℕ) → k < v.count → pattern_fits e u v k ≡ false → None ≡ patterns_tested e u v
+unfolding patterns_tested
+tested_no e u v k l f = rw (all_fails (pattern_fits e u v) v.count k l f)
 
-pub tested_yes : (e : ℕ) (u : Tasks) (v : Patterns) (k : ℕ) {low : Key} {used made : ℕ} → Walking e u v k low used made → v.count ≤ k → PatternsTested e u v (record { fits = true; links = made })
-unfolding links
+pub tested_yes : (e : ℕ) (u : Tasks) (v : Patterns) (k : ℕ) {low : Key} {used made : ℕ} → Walking e u v k low used made → v.count ≤ k
+    → Some made ≡ patterns_tested e u v
+unfolding patterns_tested links
 tested_yes e u v k w l =
-    record {
-      fits = sym (pass_end (pattern_fits e u v) v.count k w.passing l);
-      links = λ t. w.links ∙ ap (total (links_of u v)) (le_antisymm w.passing.within l);
-    }
+    rw (
+      pass_end (pattern_fits e u v) v.count k w.passing l,
+      w.links ∙ ap (total (links_of u v)) (le_antisymm w.passing.within l),
+    )

@@ -1,5 +1,5 @@
 -- The cycle of a set, and its jobs.
-use Rattle.std.specs.Prelude.{Bool, ◌&&◌, ℕ, ◌/◌, leb}
+use Rattle.std.specs.Prelude.{Bool, ◌&&◌, ℕ, ◌/◌, leb, Option, Some, None}
 use Rattle.vocabulary.specs.Test.{pick}
 use Rattle.vocabulary.specs.Least.{all}
 use Rattle.vocabulary.specs.Total.{total}
@@ -37,16 +37,13 @@ multiple_of a b = pick (holds periods a && holds periods b) (lcm a b) 0
 unfoldable pub periods_fit : Tasks → Bool
 periods_fit u = leb u.count 64 && all (λ i. holds periods (period u i)) u.count
 
--- the cycle of periods that are in their range and make one of at most 6,000; else 0
-unfoldable pub ticks_of : Tasks → ℕ
-ticks_of u = pick (all (λ i. holds periods (period u i)) u.count && leb (cycle u) longest_cycle) (cycle u) 0
-
-abbrev pub no_cycle : Cycle
-no_cycle = record { ticks = 0; jobs = 0 }
+-- the cycle of periods that are in their range and make one of at most 6,000
+unfoldable pub ticks_of : Tasks → Option ℕ
+ticks_of u = pick (all (λ i. holds periods (period u i)) u.count && leb (cycle u) longest_cycle) (Some (cycle u)) None
 
 abbrev pub cycle_is : Tasks → Cycle
 cycle_is u = record { ticks = cycle u; jobs = jobs u }
 
--- the cycle of tasks that keep rule 5, with its jobs; 0 for both where there is none
-unfoldable pub cycle_of : Tasks → Cycle
-cycle_of u = pick (periods_fit u && cycle_fits u) (cycle_is u) no_cycle
+-- the cycle of tasks that keep rule 5, with its jobs
+unfoldable pub cycle_of : Tasks → Option Cycle
+cycle_of u = pick (periods_fit u && cycle_fits u) (Some (cycle_is u)) None

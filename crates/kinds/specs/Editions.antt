@@ -1,5 +1,5 @@
 -- Rules R4.1 and R2.4: the editions of plan files, a kind of their own.
-use Rattle.std.specs.Prelude.{List, [], ◌∷◌, ℕ, ◌+◌, length, get_or}
+use Rattle.std.specs.Prelude.{List, [], ◌∷◌, map, ℕ, ◌+◌, length, get_or, Option, Some, None}
 use Rattle.kinds.specs.declared.Edition.{Edition}
 use Rattle.kinds.specs.Limits.{Range, range}
 
@@ -15,6 +15,14 @@ known = over 1 ∷ over 2 ∷ []
 abbrev pub editions : Range
 editions = range 1 (length known + 1)
 
--- the edition with a number; one that is not known reaches over no round
-unfoldable pub edition_of : ℕ → Edition
-edition_of e = get_or (over 0 ∷ known) e (over 0)
+-- the edition with a number, if it is known
+unfoldable pub edition_of : ℕ → Option Edition
+edition_of e = get_or (None ∷ map Some known) e None
+
+-- over how many rounds it reaches; one that is not known reaches over no round
+abbrev pub rounds_in : Option Edition → ℕ
+rounds_in None = 0
+rounds_in (Some x) = x.rounds
+
+abbrev pub rounds_of : ℕ → ℕ
+rounds_of e = rounds_in (edition_of e)

@@ -5,7 +5,7 @@ use Rattle.vocabulary.specs.Total.{total}
 use Rattle.vocabulary.specs.Multiple.{lcm}
 use Rattle.kinds.specs.declared.Spans.{Spans}
 use Rattle.kinds.specs.Limits.{holds, periods}
-use Rattle.kinds.specs.Editions.{edition_of}
+use Rattle.kinds.specs.Editions.{rounds_of}
 use Rattle.kinds.specs.Tasks.{Tasks, Patterns, period, from_task, to_task, pair_count, pair_first, pair_second}
 use Rattle.kinds.specs.Cycle.{cycle, jobs_of}
 
@@ -19,7 +19,7 @@ first_reach p t = p / t
 
 -- and its second, by the edition: p/Tj in edition 1, 2·p/Tj in edition 2
 abbrev pub reach : ℕ → ℕ → ℕ → ℕ
-reach e p t = (edition_of e).rounds * (p / t)
+reach e p t = rounds_of e * (p / t)
 
 -- Rule R2.3: the two jobs that pair q of pattern k links for the n-th time, n = 0, 1, 2 and so on
 unfoldable pub link_from : Tasks → Patterns → ℕ → ℕ → ℕ → ℕ

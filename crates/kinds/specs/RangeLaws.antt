@@ -1,10 +1,11 @@
 -- Laws of the ranges, of the cycle, and of what the functions over lent tables answer.
-use Rattle.std.specs.Prelude.{◌≡◌, refl, Bool, true, false, ◌&&◌, List, ℕ, zero, suc, ◌+◌, ◌*◌, ◌/◌, ◌<◌, ◌≤◌, leb, ltb, get_or}
+use Rattle.std.specs.Prelude.{◌≡◌, refl, Bool, true, false, ◌&&◌, List, ℕ, zero, suc, ◌+◌, ◌*◌, ◌/◌, ◌<◌, ◌≤◌, leb, ltb, get_or, Some, None}
 use Rattle.std.proofs.Common.{sym, ap, ◌∙◌, lt_of_lt_of_le, mul_comm, mul-le-mul, add-one, arith, ltb-true, leb-true, lt-ltb, le-ltb, le-leb}
 use Rattle.std.proofs.Math.Nat.{div-le_of_le-mul}
 use Rattle.std.proofs.lemmas.Bool.{lt-leb}
+use Rattle.std.proofs.lemmas.Option.{none-some, same_Some}
 use Rattle.vocabulary.specs.Test.{pick}
-use Rattle.vocabulary.proofs.Test.{took, both, and_false, fails}
+use Rattle.vocabulary.proofs.Test.{took, both, and_false, fails, clash}
 use Rattle.vocabulary.specs.Least.{all}
 use Rattle.vocabulary.proofs.Least.{all_fails}
 use Rattle.vocabulary.specs.Total.{total}
@@ -12,14 +13,22 @@ use Rattle.vocabulary.proofs.Total.{total_none, total_more, total_up}
 use Rattle.vocabulary.specs.Multiple.{lcm, lcm_of}
 use Rattle.vocabulary.proofs.Multiple.{lcm_pos, lcm_le, lcm_of_more, lcm_of_up, lcm_of_pos}
 use Rattle.kinds.specs.declared.Key.{Key}
-use Rattle.kinds.specs.declared.Edition.{Edition}
 use Rattle.kinds.specs.declared.Spans.{Spans}
 use Rattle.kinds.specs.Limits.{range, holds, periods, rises, after}
-use Rattle.kinds.specs.Editions.{over, edition_of}
+use Rattle.kinds.specs.Editions.{over, edition_of, rounds_of}
 use Rattle.kinds.specs.Tasks.{Tasks, period, pairs_in, first_in, second_in}
-use Rattle.kinds.specs.Cycle.{cycle, jobs, jobs_before, jobs_of, cycle_fits, multiple_of, periods_fit, ticks_of, no_cycle, cycle_of}
+use Rattle.kinds.specs.Cycle.{cycle, jobs, jobs_before, jobs_of, cycle_fits, cycle_is, multiple_of, periods_fit, ticks_of, cycle_of}
 use Rattle.kinds.specs.Links.{first_reach, spans_of}
 use Rattle.kinds.specs.Sound.{pair_key, pair_fits}
+
+-- ---- a value where a test passes, and none where it does not
+pub pick_some : {A : Type 0} (b : Bool) {x y : A} → Some y ≡ pick b (Some x) None → (b ≡ true) × (y ≡ x)
+pick_some true {x} {y} e = (refl, same_Some y x e)
+pick_some false {x} {y} e = absurd (none-some y (sym e))
+
+pub pick_none : {A : Type 0} (b : Bool) (x : A) → None ≡ pick b (Some x) None → b ≡ false
+pick_none true x e = absurd (none-some x e)
+pick_none false x e = refl
 
 -- ---- ranges
 pub holds_yes : (l u v : ℕ) → l ≤ v → v < u → holds (range l u) v ≡ true
@@ -39,15 +48,15 @@ unfolding holds
 holds_at l u v e = let w = both {a = leb l v} {b = ltb v u} e in (leb-true l v w.0, ltb-true v u w.1)
 
 -- ---- editions
-pub edition_first : (e : ℕ) → e ≡ 1 → over 1 ≡ edition_of e
+pub edition_first : (e : ℕ) → e ≡ 1 → Some (over 1) ≡ edition_of e
 unfolding edition_of
 edition_first e q = rw q
 
-pub edition_second : (e : ℕ) → e ≡ 2 → over 2 ≡ edition_of e
+pub edition_second : (e : ℕ) → e ≡ 2 → Some (over 2) ≡ edition_of e
 unfolding edition_of
 edition_second e q = rw q
 
-pub edition_other : (e : ℕ) → (e ≡ 1 → ⊥) → (e ≡ 2 → ⊥) → over 0 ≡ edition_of e
+pub edition_other : (e : ℕ) → (e ≡ 1 → ⊥) → (e ≡ 2 → ⊥) → None ≡ edition_of e
 unfolding edition_of
 edition_other zero a b = refl
 edition_other (suc zero) a b = absurd (a refl)
@@ -55,7 +64,7 @@ edition_other (suc (suc zero)) a b = absurd (b refl)
 edition_other (suc (suc (suc e))) a b = refl
 
 -- No edition reaches over more than two rounds.
-pub rounds_low : (e : ℕ) → (edition_of e).rounds ≤ 2
+pub rounds_low : (e : ℕ) → rounds_of e ≤ 2
 unfolding edition_of
 rounds_low zero = omega arith
 rounds_low (suc zero) = omega arith
@@ -105,13 +114,13 @@ shares_low s t {m} q z =
     let y : m / t ≤ s = div-le_of_le-mul t (rw (mul_comm t s) l) in
     (omega arith, omega arith)
 
-pub spans_some : (e s t : ℕ) {m : ℕ} {x : Edition} → m ≡ multiple_of s t → (m ≡ 0 → ⊥) → x ≡ edition_of e
-    → record { whole = m; first = first_reach m s; second = x.rounds * (m / t) } ≡ spans_of e s t
+pub spans_some : (e s t : ℕ) {m x : ℕ} → m ≡ multiple_of s t → (m ≡ 0 → ⊥) → x ≡ rounds_of e
+    → record { whole = m; first = first_reach m s; second = x * (m / t) } ≡ spans_of e s t
 unfolding spans_of
 spans_some e s t q z i = let w = multiple_some s t q z in rw (i, w.0, w.1)
 
 -- So a pair's numbers stay low, in every edition.
-pub reach_low : (e n : ℕ) {x : Edition} → x ≡ edition_of e → n ≤ 6000 → x.rounds * n ≤ 12000
+pub reach_low : (e n : ℕ) {x : ℕ} → x ≡ rounds_of e → n ≤ 6000 → x * n ≤ 12000
 reach_low e n i l = rw i (mul-le-mul (rounds_low e) l)
 
 pub spans_low : (e s t : ℕ) {m : Spans} → m ≡ spans_of e s t → (m.first ≤ 6000) × (m.second ≤ 12000)
@@ -125,11 +134,11 @@ spans_low e s t {m} q = by (multiple_of s t) refl
 
 -- ---- the cycle of n periods
 -- It is found by one period after another. A period out of its range, or a multiple over the limit at any of them, settles the answer.
-pub ticks_broken : (u : Tasks) (i : ℕ) → i < u.count → holds periods (period u i) ≡ false → 0 ≡ ticks_of u
+pub ticks_broken : (u : Tasks) (i : ℕ) → i < u.count → holds periods (period u i) ≡ false → None ≡ ticks_of u
 unfolding ticks_of
 ticks_broken u i l e = rw (all_fails (λ i. holds periods (period u i)) u.count i l e)
 
-pub ticks_long : (u : Tasks) (i : ℕ) → i < u.count → 6000 < lcm_of (λ j. period u j) (i + 1) → 0 ≡ ticks_of u
+pub ticks_long : (u : Tasks) (i : ℕ) → i < u.count → 6000 < lcm_of (λ j. period u j) (i + 1) → None ≡ ticks_of u
 unfolding ticks_of cycle
 ticks_long u i l h =
     let T : ℕ → ℕ = λ j. period u j in
@@ -140,7 +149,7 @@ ticks_long u i l h =
     )
 
 pub ticks_end : (u : Tasks) {h : ℕ} → all (λ i. holds periods (period u i)) u.count ≡ true → h ≡ lcm_of (λ j. period u j) u.count → h ≤ 6000
-    → h ≡ ticks_of u
+    → Some h ≡ ticks_of u
 unfolding ticks_of cycle
 ticks_end u {h} p e l = rw (p, ← e, le-leb h 6000 l)
 
@@ -155,39 +164,37 @@ ticks_more u i {h} {m} e q z =
 pub ticks_stop : (h t : ℕ) {m : ℕ} → 0 < h → h ≤ 6000 → m ≡ multiple_of h t → m ≡ 0 → holds periods t ≡ false
 ticks_stop h t p l q z = rw (holds_yes 1 6001 h p (omega arith)) at (multiple_none h t q z)
 
-pub ticks_some : (u : Tasks) {h : ℕ} → h ≡ ticks_of u → (h ≡ 0 → ⊥) → (all (λ i. holds periods (period u i)) u.count ≡ true) × (h ≡ cycle u) × (h ≤ 6000)
+pub ticks_some : (u : Tasks) {h : ℕ} → Some h ≡ ticks_of u → (all (λ i. holds periods (period u i)) u.count ≡ true) × (h ≡ cycle u) × (h ≤ 6000)
 unfolding ticks_of
-ticks_some u {h} e z =
-    let c : ℕ = cycle u in
-    let w = took (all (λ i. holds periods (period u i)) u.count && leb c 6000) c 0 h (sym e) (λ y. z (sym y)) in
+ticks_some u {h} e =
+    let w = pick_some (all (λ i. holds periods (period u i)) u.count && leb (cycle u) 6000) e in
     let b = both {a = all (λ i. holds periods (period u i)) u.count} w.0 in
-    (b.0, sym w.1, omega (arith, leb-true c 6000 b.1, w.1))
+    (b.0, w.1, omega (arith, leb-true (cycle u) 6000 b.1, w.1))
 
 pub cycle_pos : (u : Tasks) → 0 < cycle u
 unfolding cycle
 cycle_pos u = lcm_of_pos (λ i. period u i) u.count
 
 -- The answer `cycle_of` has four cases: too many periods, no cycle, too many jobs, and a cycle with its jobs.
-pub cycle_many : (u : Tasks) → 64 < u.count → no_cycle ≡ cycle_of u
+pub cycle_many : (u : Tasks) → 64 < u.count → None ≡ cycle_of u
 unfolding cycle_of periods_fit
 cycle_many u l = rw (lt-leb u.count 64 l)
 
-pub cycle_none : (u : Tasks) {h : ℕ} → h ≡ ticks_of u → h ≡ 0 → no_cycle ≡ cycle_of u
+pub cycle_none : (u : Tasks) → None ≡ ticks_of u → None ≡ cycle_of u
 unfolding ticks_of cycle_of periods_fit cycle_fits
-cycle_none u {h} e z = by (all (λ i. holds periods (period u i)) u.count) refl (leb (cycle u) 6000) refl
+cycle_none u e = by (all (λ i. holds periods (period u i)) u.count) (leb (cycle u) 6000) (pick_none (all (λ i. holds periods (period u i)) u.count && leb (cycle u) 6000) _ e)
   where
-    by : (a : Bool) → all (λ i. holds periods (period u i)) u.count ≡ a → (b : Bool) → leb (cycle u) 6000 ≡ b
-        → no_cycle ≡ pick ((leb u.count 64 && a) && (b && leb (jobs u) 2048)) (record { ticks = cycle u; jobs = jobs u }) no_cycle
-    by true p true q = absurd (omega (arith, rw (p, q) at e, cycle_pos u))
-    by true p false q = rw (and_false (leb u.count 64 && true))
-    by false p b q = rw (and_false (leb u.count 64))
+    by : (a b : Bool) → (a && b) ≡ false → None ≡ pick ((leb u.count 64 && a) && (b && leb (jobs u) 2048)) (Some (cycle_is u)) None
+    by true true q = clash refl q
+    by true false q = rw (and_false (leb u.count 64 && true))
+    by false b q = rw (and_false (leb u.count 64))
 
-pub cycle_over : (u : Tasks) → 2048 < jobs u → no_cycle ≡ cycle_of u
+pub cycle_over : (u : Tasks) → 2048 < jobs u → None ≡ cycle_of u
 unfolding cycle_of cycle_fits
 cycle_over u l = rw (lt-leb (jobs u) 2048 l, and_false (leb (cycle u) 6000), and_false (periods_fit u))
 
 pub cycle_some : (u : Tasks) {h j : ℕ} → u.count ≤ 64 → all (λ i. holds periods (period u i)) u.count ≡ true → h ≡ cycle u → h ≤ 6000 → j ≡ jobs u
-    → j ≤ 2048 → record { ticks = h; jobs = j } ≡ cycle_of u
+    → j ≤ 2048 → Some (record { ticks = h; jobs = j }) ≡ cycle_of u
 unfolding cycle_of periods_fit cycle_fits
 cycle_some u {h} {j} few p e l q m = rw (le-leb u.count 64 few, p, ← e, le-leb h 6000 l, ← q, le-leb j 2048 m)
 

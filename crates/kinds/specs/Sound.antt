@@ -1,11 +1,10 @@
 -- Rule R7.3, which is about 10: a set that is lent keeps what the reader tests by 3, 4, 5, 6 and 9.
-use Rattle.std.specs.Prelude.{◌≡◌, Bool, true, false, ◌&&◌, not, List, ℕ, zero, suc, ◌+◌, ◌<◌, ◌≤◌, leb, eqb}
+use Rattle.std.specs.Prelude.{◌≡◌, Bool, ◌&&◌, not, List, ℕ, zero, suc, ◌+◌, ◌<◌, ◌≤◌, leb, eqb, Option, Some, None}
 use Rattle.vocabulary.specs.Least.{all}
 use Rattle.kinds.specs.declared.Key.{Key}
 use Rattle.kinds.specs.declared.Task.{Task}
 use Rattle.kinds.specs.declared.Pattern.{Pattern}
 use Rattle.kinds.specs.declared.Spans.{Spans}
-use Rattle.kinds.specs.declared.Tested.{Tested}
 use Rattle.kinds.specs.declared.Cycle.{Cycle}
 use Rattle.kinds.specs.declared.Counts.{Counts}
 use Rattle.vocabulary.specs.Test.{pick}
@@ -13,7 +12,7 @@ use Rattle.kinds.specs.Limits.{holds, task_counts, processor_counts, periods, ru
 use Rattle.kinds.specs.Limits.{most_pairs, most_links, no_key, after, rises}
 use Rattle.kinds.specs.Editions.{editions}
 use Rattle.kinds.specs.Tasks.{Tasks, Patterns, Set, task_at, period, from_task, to_task, pair_count, pairs_before, first_in, second_in}
-use Rattle.kinds.specs.Cycle.{cycle, cycle_fits, cycle_is, no_cycle}
+use Rattle.kinds.specs.Cycle.{cycle, jobs, cycle_fits, cycle_is}
 use Rattle.kinds.specs.Links.{common, first_reach, reach, links, spans_of, links_in}
 
 -- Rule R4.4: T, C, O and D of a task.
@@ -65,37 +64,36 @@ sound s =
     && (all (pattern_fits s.edition s.tasks s.patterns) s.patterns.count
     && leb (links s.tasks s.patterns) most_links))))
 
--- ---- the cycle and the numbers of a set that is let through; 0 for the cycle of any other
-unfoldable pub sound_cycle : Set → Cycle
-sound_cycle s = pick (sound s) (cycle_is s.tasks) no_cycle
+-- ---- the cycle and the numbers of a set that is let through
+unfoldable pub sound_cycle : Set → Option Cycle
+sound_cycle s = pick (sound s) (Some (cycle_is s.tasks)) None
 
-unfoldable pub counts_of : Set → Counts
-counts_of s =
+abbrev pub counts_in : Set → Counts
+counts_in s =
     record {
       edition = s.edition;
       processors = s.processors;
       tasks = s.tasks.count;
       patterns = s.patterns.count;
-      ticks = (sound_cycle s).ticks;
-      jobs = (sound_cycle s).jobs;
+      ticks = cycle s.tasks;
+      jobs = jobs s.tasks;
     }
 
--- ---- what the tests of one pattern answer, where low is the lowest that may stand there and so many pairs are used: whether it is in order, and how
--- many links it makes then, in h ticks
-abbrev pub unfit : Tested
-unfit = record { fits = false; links = 0 }
+unfoldable pub counts_of : Set → Option Counts
+counts_of s = pick (sound s) (Some (counts_in s)) None
 
-unfoldable pub pattern_tested : ℕ → Tasks → ℕ → List ℕ → Key → ℕ → Pattern → Tested
+-- ---- what the tests of one pattern answer, where low is the lowest that may stand there and so many pairs are used: how many links it makes in h ticks, if
+-- it is in order
+unfoldable pub pattern_tested : ℕ → Tasks → ℕ → List ℕ → Key → ℕ → Pattern → Option ℕ
 pattern_tested e u h ps low used p =
     let m : Spans = spans_of e (period u p.from) (period u p.to) in
     pick (heading_fits u.count low p.from p.to p.pairs used && all (pair_fits ps used m.first m.second) p.pairs)
-    (record { fits = true; links = links_in p.pairs h m.whole })
-    unfit
+    (Some (links_in p.pairs h m.whole))
+    None
 
--- ---- what the walk over the patterns answers: whether all are in order, and how many links they make then
-pub record PatternsTested (e : ℕ) (u : Tasks) (v : Patterns) (r : Tested) : Type 0 where
-  pub fits : r.fits ≡ all (pattern_fits e u v) v.count
-  pub links : r.fits ≡ true → r.links ≡ links u v
+-- ---- what the walk over the patterns answers: how many links they make, if all are in order
+unfoldable pub patterns_tested : ℕ → Tasks → Patterns → Option ℕ
+patterns_tested e u v = pick (all (pattern_fits e u v) v.count) (Some (links u v)) None
 
 -- what it asks: periods in their range, and the cycle
 pub record PatternsAsked (u : Tasks) (v : Patterns) (h : ℕ) : Type 0 where

@@ -1,23 +1,22 @@
 -- Rule 10 as a whole, test by test in the order of the code: what each test says of `sound`.
-use Rattle.std.specs.Prelude.{◌≡◌, Bool, not, ℕ, ◌<◌, ◌≤◌, eqb, leb}
+use Rattle.std.specs.Prelude.{◌≡◌, Bool, ℕ, ◌<◌, ◌≤◌, leb, Option, Some, None, is_some}
 use Rattle.std.proofs.Math.Path.{refl}
 use Rattle.std.proofs.Common.{sym, ap, ◌∙◌, subst, arith}
 use Rattle.std.proofs.Math.Bool.{true, false}
-use borrow.Author.Tests.{le-leb, lt-leb, leb-true, eq-eqb, ne_eqb}
+use borrow.Author.Tests.{le-leb, lt-leb, leb-true}
 use Rattle.vocabulary.specs.Test.{pick}
-use Rattle.vocabulary.proofs.Test.{both, fails}
+use Rattle.vocabulary.proofs.Test.{both}
 use Rattle.vocabulary.specs.Least.{all}
 use Rattle.vocabulary.proofs.Least.{all_at, all_from}
 use Rattle.kinds.specs.declared.Cycle.{Cycle}
-use Rattle.kinds.specs.declared.Tested.{Tested}
 use Rattle.kinds.specs.declared.Counts.{Counts}
 use Rattle.kinds.specs.Limits.{holds, periods}
 use Rattle.kinds.specs.Editions.{editions}
 use Rattle.kinds.specs.Tasks.{Tasks, Set, tasks_of, patterns_of, period}
 use Rattle.kinds.specs.Build.{lent_set}
-use Rattle.kinds.specs.Cycle.{cycle, jobs, cycle_fits, periods_fit, cycle_is, no_cycle, cycle_of}
-use Rattle.kinds.specs.Sound.{attributes_fit, task_fits, opening_fits, sound, sound_cycle, counts_of, PatternsTested, PatternsAsked}
-use Rattle.kinds.specs.RangeLaws.{holds_at, holds_yes, holds_high, cycle_pos}
+use Rattle.kinds.specs.Cycle.{cycle, jobs, cycle_fits, periods_fit, cycle_is, cycle_of}
+use Rattle.kinds.specs.Sound.{attributes_fit, task_fits, pattern_fits, opening_fits, sound, sound_cycle, counts_of, patterns_tested, PatternsAsked}
+use Rattle.kinds.specs.RangeLaws.{pick_some, pick_none, holds_at, holds_yes, holds_high}
 
 pub few_tasks : (e n m : ℕ) → opening_fits e n m ≡ true → n ≤ 64
 unfolding opening_fits
@@ -27,52 +26,55 @@ pub some_periods : (u : Tasks) → all (task_fits u) u.count ≡ true → (i : �
 unfolding task_fits attributes_fit
 some_periods u h i l = (both (all_at (task_fits u) u.count h i l)).0
 
--- The ticks of the cycle that was found say whether rule 5 is kept: they are 0 where it is not.
-module _ (u : Tasks) (few : u.count ≤ 64) (fit : all (task_fits u) u.count ≡ true) {r : Cycle} (e : r ≡ cycle_of u) where
-  told : r ≡ pick (cycle_fits u) (cycle_is u) no_cycle
+-- Whether a cycle was found says whether rule 5 is kept.
+module _ (u : Tasks) (few : u.count ≤ 64) (fit : all (task_fits u) u.count ≡ true) where
+  told : cycle_of u ≡ pick (cycle_fits u) (Some (cycle_is u)) None
   unfolding cycle_of periods_fit
   told =
-      e ∙ rw (le-leb u.count 64 few, all_from (λ i. holds periods (period u i)) u.count (some_periods u fit))
+      rw (le-leb u.count 64 few, all_from (λ i. holds periods (period u i)) u.count (some_periods u fit))
 
-  pub cycle_unfit : r.ticks ≡ 0 → cycle_fits u ≡ false
-  cycle_unfit z = fails (λ p. omega (arith, ap (λ (x : Cycle). x.ticks) told ∙ ap (λ (b : Bool). (pick b (cycle_is u) no_cycle).ticks) p, cycle_pos u))
+  pub cycle_unfit : None ≡ cycle_of u → cycle_fits u ≡ false
+  cycle_unfit e = pick_none (cycle_fits u) _ (e ∙ told)
 
-  pub cycle_fit : (r.ticks ≡ 0 → ⊥) → (cycle_fits u ≡ true) × (r.ticks ≡ cycle u) × (r.ticks ≤ 6000)
+  pub cycle_fit : {c : Cycle} → Some c ≡ cycle_of u → (cycle_fits u ≡ true) × (c ≡ cycle_is u) × (c.ticks ≤ 6000)
   unfolding cycle_fits
-  cycle_fit z = by (cycle_fits u) refl (ap (λ (x : Cycle). x.ticks) told)
-    where
-      by : (b : Bool) → cycle_fits u ≡ b → r.ticks ≡ (pick b (cycle_is u) no_cycle).ticks → (cycle_fits u ≡ true) × (r.ticks ≡ cycle u) × (r.ticks ≤ 6000)
-      by true p q = (p, q, omega (arith, leb-true (cycle u) 6000 (both p).0))
-      by false p q = absurd (z q)
-
-  pub cycle_is_lem : cycle_fits u ≡ true → r ≡ cycle_is u
-  cycle_is_lem p = told ∙ rw p
+  cycle_fit {c} e =
+      let w = pick_some (cycle_fits u) (e ∙ told) in
+      let t : c.ticks ≡ cycle u = ap (λ (x : Cycle). x.ticks) w.1 in
+      (w.0, w.1, omega (arith, t, leb-true (cycle u) 6000 (both {a = leb (cycle u) 6000} w.0).0))
 
 -- ---- what `sound_cycle` is, by the last test
-pub no_cycle_lem : (s : Set) → false ≡ sound s → no_cycle ≡ sound_cycle s
+pub no_cycle_lem : (s : Set) → false ≡ sound s → None ≡ sound_cycle s
 unfolding sound_cycle
 no_cycle_lem s e = rw (← e)
 
-pub sound_cycle_lem : (s : Set) {r : Cycle} → sound s ≡ true → r ≡ cycle_is s.tasks → r ≡ sound_cycle s
+pub sound_cycle_lem : (s : Set) {c : Cycle} → sound s ≡ true → c ≡ cycle_is s.tasks → Some c ≡ sound_cycle s
 unfolding sound_cycle
-sound_cycle_lem s e q = q ∙ rw e
+sound_cycle_lem s e q = rw (e, q)
 
--- its ticks are 0 exactly where the set breaks rule 10
-pub sound_by_ticks : (s : Set) {r : Cycle} {b : Bool} → r ≡ sound_cycle s → b ≡ not (eqb r.ticks 0) → b ≡ sound s
+-- there is one exactly where the set keeps rule 10
+pub sound_by_cycle : (s : Set) {r : Option Cycle} {b : Bool} → r ≡ sound_cycle s → b ≡ is_some r → b ≡ sound s
 unfolding sound_cycle
-sound_by_ticks s {r} {b} e q = by (sound s) refl
+sound_by_cycle s {r} {b} e q = by (sound s) refl
   where
     by : (x : Bool) → sound s ≡ x → b ≡ sound s
-    by true p =
-        let t : r.ticks ≡ cycle s.tasks = ap (λ (c : Cycle). c.ticks) e ∙ rw p in
-        q ∙ rw (ne_eqb r.ticks 0 (λ z. omega (arith, cycle_pos s.tasks)), p)
-    by false p =
-        let t : r.ticks ≡ 0 = ap (λ (c : Cycle). c.ticks) e ∙ rw p in
-        q ∙ rw (eq-eqb r.ticks 0 t, p)
+    by true p = q ∙ rw (e, p)
+    by false p = q ∙ rw (e, p)
 
-pub counts_none : (s : Set) {f : Counts} → f ≡ counts_of s → f.ticks ≡ 0 → sound s ≡ false
+-- ---- what `counts_of` is, by the cycle
+pub counts_no_cycle : (s : Set) → None ≡ sound_cycle s → None ≡ counts_of s
 unfolding counts_of sound_cycle
-counts_none s {f} e z = fails (λ p. let t : f.ticks ≡ cycle s.tasks = ap (λ (c : Counts). c.ticks) e ∙ rw p in omega (arith, cycle_pos s.tasks))
+counts_no_cycle s e = rw (pick_none (sound s) _ e)
+
+pub counts_cycle : (s : Set) {c : Cycle} → Some c ≡ sound_cycle s
+    → Some (record { edition = s.edition; processors = s.processors; tasks = s.tasks.count; patterns = s.patterns.count; ticks = c.ticks; jobs = c.jobs })
+    ≡ counts_of s
+unfolding counts_of sound_cycle
+counts_cycle s e = let w = pick_some (sound s) e in rw (w.0, w.1)
+
+pub counts_none : (s : Set) → None ≡ counts_of s → sound s ≡ false
+unfolding counts_of
+counts_none s e = pick_none (sound s) _ e
 
 -- the numbers of a set that keeps rule 10
 pub record CountsFound (s : Set) (f : Counts) : Type 0 where
@@ -84,22 +86,19 @@ pub record CountsFound (s : Set) (f : Counts) : Type 0 where
   pub ticks : f.ticks ≡ cycle s.tasks
   pub jobs : f.jobs ≡ jobs s.tasks
 
-pub counts_found : (s : Set) {f : Counts} → f ≡ counts_of s → (f.ticks ≡ 0 → ⊥) → CountsFound s f
-unfolding counts_of sound_cycle
-counts_found s {f} e z = by (sound s) refl
-  where
-    by : (x : Bool) → sound s ≡ x → CountsFound s f
-    by true p =
-        record {
-          is_sound = p;
-          edition = ap (λ (c : Counts). c.edition) e;
-          processors = ap (λ (c : Counts). c.processors) e;
-          tasks = ap (λ (c : Counts). c.tasks) e;
-          patterns = ap (λ (c : Counts). c.patterns) e;
-          ticks = ap (λ (c : Counts). c.ticks) e ∙ rw p;
-          jobs = ap (λ (c : Counts). c.jobs) e ∙ rw p;
-        }
-    by false p = absurd (z (ap (λ (c : Counts). c.ticks) e ∙ rw p))
+pub counts_found : (s : Set) {f : Counts} → Some f ≡ counts_of s → CountsFound s f
+unfolding counts_of
+counts_found s {f} e =
+    let w = pick_some (sound s) e in
+    record {
+      is_sound = w.0;
+      edition = ap (λ (c : Counts). c.edition) w.1;
+      processors = ap (λ (c : Counts). c.processors) w.1;
+      tasks = ap (λ (c : Counts). c.tasks) w.1;
+      patterns = ap (λ (c : Counts). c.patterns) w.1;
+      ticks = ap (λ (c : Counts). c.ticks) w.1;
+      jobs = ap (λ (c : Counts). c.jobs) w.1;
+    }
 
 -- a set by value with the numbers that were found is that of its tables
 module _ (s : Set) {f : Counts} (c : CountsFound s f) where
@@ -131,46 +130,48 @@ module _ (s : Set) where
     unfolding sound
     not_tasks h = rw (o, h)
 
-    module _ (t : all (task_fits s.tasks) s.tasks.count ≡ true) {r : Cycle} (e : r ≡ cycle_of s.tasks) where
+    module _ (t : all (task_fits s.tasks) s.tasks.count ≡ true) where
       few : s.tasks.count ≤ 64
       few = few_tasks s.edition s.tasks.count s.processors o
 
-      pub not_cycle : r.ticks ≡ 0 → false ≡ sound s
+      pub not_cycle : None ≡ cycle_of s.tasks → false ≡ sound s
       unfolding sound
-      not_cycle z = rw (o, t, cycle_unfit s.tasks few t e z)
+      not_cycle e = rw (o, t, cycle_unfit s.tasks few t e)
 
-      module _ (c : r.ticks ≡ 0 → ⊥) where
-        fit : (cycle_fits s.tasks ≡ true) × (r.ticks ≡ cycle s.tasks) × (r.ticks ≤ 6000)
-        fit = cycle_fit s.tasks few t e c
+      module _ {c : Cycle} (e : Some c ≡ cycle_of s.tasks) where
+        fit : (cycle_fits s.tasks ≡ true) × (c ≡ cycle_is s.tasks) × (c.ticks ≤ 6000)
+        fit = cycle_fit s.tasks few t e
 
         pub not_patterns_few : 64 < s.patterns.count → false ≡ sound s
         unfolding sound
         not_patterns_few l = rw (o, t, fit.0, holds_high 0 65 s.patterns.count l)
 
         module _ (l : s.patterns.count ≤ 64) where
-          pub patterns_asked : PatternsAsked s.tasks s.patterns r.ticks
+          pub patterns_asked : PatternsAsked s.tasks s.patterns c.ticks
           patterns_asked =
               record {
                 tasks = few;
                 patterns = l;
                 periods = λ i h. let w = holds_at 1 6001 (period s.tasks i) (some_periods s.tasks t i h) in (w.0, omega arith);
-                ticks = fit.1;
+                ticks = ap (λ (x : Cycle). x.ticks) fit.1;
                 short = fit.2;
               }
 
-          module _ {x : Tested} (p : PatternsTested s.edition s.tasks s.patterns x) where
-            pub not_patterns : x.fits ≡ false → false ≡ sound s
-            unfolding sound
-            not_patterns h =
-                rw (o, t, fit.0, holds_yes 0 65 s.patterns.count (omega arith) (omega arith), ← p.fits, h)
+          pub not_patterns : None ≡ patterns_tested s.edition s.tasks s.patterns → false ≡ sound s
+          unfolding sound patterns_tested
+          not_patterns p =
+              let h = pick_none (all (pattern_fits s.edition s.tasks s.patterns) s.patterns.count) _ p in
+              rw (o, t, fit.0, holds_yes 0 65 s.patterns.count (omega arith) (omega arith), h)
 
-            by_links : x.fits ≡ true → leb x.links 4096 ≡ sound s
-            unfolding sound
-            by_links h =
-                rw (o, t, fit.0, holds_yes 0 65 s.patterns.count (omega arith) (omega arith), ← p.fits, h, ← p.links h)
+          module _ {n : ℕ} (p : Some n ≡ patterns_tested s.edition s.tasks s.patterns) where
+            by_links : leb n 4096 ≡ sound s
+            unfolding sound patterns_tested
+            by_links =
+                let w = pick_some (all (pattern_fits s.edition s.tasks s.patterns) s.patterns.count) p in
+                rw (o, t, fit.0, holds_yes 0 65 s.patterns.count (omega arith) (omega arith), w.0, w.1)
 
-            pub too_many : x.fits ≡ true → 4096 < x.links → false ≡ sound s
-            too_many h l = sym (lt-leb x.links 4096 l) ∙ by_links h
+            pub too_many : 4096 < n → false ≡ sound s
+            too_many h = sym (lt-leb n 4096 h) ∙ by_links
 
-            pub all_in : x.fits ≡ true → x.links ≤ 4096 → r ≡ sound_cycle s
-            all_in h l = sound_cycle_lem s (sym (by_links h) ∙ le-leb x.links 4096 l) (cycle_is_lem s.tasks few t e fit.0)
+            pub all_in : n ≤ 4096 → Some c ≡ sound_cycle s
+            all_in h = sound_cycle_lem s (sym by_links ∙ le-leb n 4096 h) fit.1

@@ -7,11 +7,11 @@ ghost use Rattle.vocabulary.specs.Total.{total};
 ghost use Rattle.vocabulary.specs.Least.{all};
 ghost use Rattle.vocabulary.specs.Multiple.{lcm};
 ghost use Rattle.kinds.specs.Limits.{Range, range, holds, periods, rises};
-ghost use Rattle.kinds.specs.Editions.{edition_of};
+ghost use Rattle.kinds.specs.Editions.{edition_of, rounds_of};
 ghost use Rattle.kinds.specs.Tasks.{Tasks, period, tasks_of, patterns_of, pairs_in, task_in, pattern_in, pair_in, view};
 ghost use Rattle.kinds.specs.Cycle.{multiple_of, ticks_of, cycle_of};
 ghost use Rattle.kinds.specs.Links.{spans_of, links_in};
-ghost use Rattle.kinds.specs.Sound.{attributes_fit, task_fits, pair_fits, heading_fits, pattern_tested, PatternsTested, PatternsAsked, opening_fits};
+ghost use Rattle.kinds.specs.Sound.{attributes_fit, task_fits, pair_fits, heading_fits, pattern_tested, patterns_tested, PatternsAsked, opening_fits};
 ghost use Rattle.kinds.specs.Sound.{sound, sound_cycle, counts_of};
 ghost use Rattle.kinds.specs.Build.{no_tasks, in_tables, with_task, with_pattern, with_pair};
 
@@ -82,7 +82,7 @@ pub struct Key {
     pub second: u32,
 }
 
-// A cycle's length and how many jobs it has; 0 for both: none within the limits.
+// A cycle's length and how many jobs it has.
 #[derive(Clone, Copy)]
 pub struct Cycle {
     pub ticks: u32,
@@ -95,13 +95,6 @@ pub struct Spans {
     pub whole: u32,
     pub first: u32,
     pub second: u32,
-}
-
-// Whether a pattern, or all of them, are in order, and how many links they make then.
-#[derive(Clone, Copy)]
-pub struct Tested {
-    pub fits: bool,
-    pub links: u64,
 }
 
 // Limits belong to the kinds that they limit. A range runs from its lowest number up to, but not with, its limit.
@@ -132,17 +125,25 @@ impl Edition {
 
     pub const LIMIT: u32 = Edition::SECOND + 1;
 
-    // The edition with this number; one that is not known reaches over no round.
-    pub fn of(number: u32) -> Edition
+    // The edition with this number, if it is known.
+    pub fn of(number: u32) -> Option<Edition>
         ensures { result ≡ edition_of number }
     {
-        if number == Edition::FIRST {
-            return Edition { rounds: 1 };
+        match number {
+            Edition::FIRST => Some(Edition { rounds: 1 }),
+            Edition::SECOND => Some(Edition { rounds: 2 }),
+            _ => None,
         }
-        if number == Edition::SECOND {
-            return Edition { rounds: 2 };
+    }
+
+    // Over how many rounds the edition with this number reaches; one that is not known reaches over none.
+    fn rounds_of(number: u32) -> u32
+        ensures { result ≡ rounds_of number }
+    {
+        match Edition::of(number) {
+            Some(edition) => edition.rounds,
+            None => 0,
         }
-        Edition { rounds: 0 }
     }
 }
 
@@ -299,10 +300,8 @@ fn pairs_in(headings: &Headings, n: usize) -> usize
     ensures { result ≡ pairs_in headings.now n }
 {
     let mut total: usize = 0;
-    let mut k: usize = 0;
-    while k < n {
+    for k in 0..n {
         total += wide(headings[TaskSet::OF_PATTERN * k + TaskSet::LENGTH]);
-        k += 1;
     }
     total
 }
@@ -311,7 +310,7 @@ fn pairs_in(headings: &Headings, n: usize) -> usize
 pub fn is_within(v: u32, low: u32, limit: u32) -> bool
     ensures { result ≡ holds (range low limit) v }
 {
-    if low <= v { v < limit } else { false }
+    low <= v && v < limit
 }
 
 // The least common multiple by Euclid's method. How often the greatest common divisor goes into a is counted along, which saves a division at the end:
@@ -339,6 +338,7 @@ fn multiple_of(a: u32, b: u32) -> u32
 }
 
 // The least common multiple of two periods; 0 where one of the two is no period. The larger comes first, which saves a step.
+// A number and not an Option: a multiple is never 0, and callers with sound periods use it as it is.
 pub fn common_multiple(a: u32, b: u32) -> u32
     ensures { result ≡ multiple_of a b }
 {
@@ -354,24 +354,22 @@ pub fn common_multiple(a: u32, b: u32) -> u32
     multiple_of(a, b)
 }
 
-// The common multiple of the first n periods; 0 where one is no period, or where it is over the longest cycle.
-fn ticks_of(attributes: &Attributes, n: usize) -> u32
+// The common multiple of the first n periods; none where one is no period, or where it is over the longest cycle.
+fn ticks_of(attributes: &Attributes, n: usize) -> Option<u32>
     requires { n ≤ 64 }
     ensures { result ≡ ticks_of (tasks_of n attributes.now) }
 {
     let mut h: u32 = 1;
-    let mut i: usize = 0;
-    while i < n {
+    for i in 0..n {
         h = common_multiple(h, attributes[TaskSet::OF_TASK * i]);
         if h == 0 {
-            return 0;
+            return None;
         }
         if Cycle::LONGEST < h {
-            return 0;
+            return None;
         }
-        i += 1;
     }
-    h
+    Some(h)
 }
 
 // The jobs that n tasks have in h ticks.
@@ -380,33 +378,29 @@ fn jobs_in(attributes: &Attributes, n: usize, h: u32) -> u32
     ensures { result ≡ total (λ i. h / period (tasks_of n attributes.now) i) n }
 {
     let mut total: u32 = 0;
-    let mut i: usize = 0;
-    while i < n {
+    for i in 0..n {
         total += h / attributes[TaskSet::OF_TASK * i];
-        i += 1;
     }
     total
 }
 
-// The cycle of the first n periods, with its jobs, where it keeps rule 5; else 0 for both.
-pub fn cycle_of(attributes: &Attributes, n: usize) -> Cycle
+// The cycle of the first n periods, with its jobs, where it keeps rule 5.
+pub fn cycle_of(attributes: &Attributes, n: usize) -> Option<Cycle>
     ensures { result ≡ cycle_of (tasks_of n attributes.now) }
 {
     if TaskSet::MOST_TASKS < n {
-        return Cycle { ticks: 0, jobs: 0 };
+        return None;
     }
-    let h = ticks_of(attributes, n);
-    if h == 0 {
-        return Cycle { ticks: 0, jobs: 0 };
-    }
-    let jobs = jobs_in(attributes, n, h);
+    let ticks = ticks_of(attributes, n)?;
+    let jobs = jobs_in(attributes, n, ticks);
     if Cycle::MOST_JOBS < jobs {
-        return Cycle { ticks: 0, jobs: 0 };
+        return None;
     }
-    Cycle { ticks: h, jobs }
+    Some(Cycle { ticks, jobs })
 }
 
 // Two periods' common multiple, and how far the numbers of a pair may go; all 0 where one of the two is no period.
+// Spans and not an Option of them: callers with sound periods use them as they are, and no pair lies in spans of 0.
 pub fn spans_of(edition: u32, s: u32, t: u32) -> Spans
     ensures { result ≡ spans_of edition s t }
 {
@@ -418,11 +412,11 @@ pub fn spans_of(edition: u32, s: u32, t: u32) -> Spans
             second: 0,
         };
     }
-    let e = Edition::of(edition);
+    let rounds = Edition::rounds_of(edition);
     Spans {
         whole: p,
         first: p / s,
-        second: e.rounds * (p / t),
+        second: rounds * (p / t),
     }
 }
 
@@ -534,12 +528,10 @@ fn tasks_fit(attributes: &Attributes, n: usize) -> bool
     requires { n ≤ 64 }
     ensures { result ≡ all (task_fits (tasks_of n attributes.now)) n }
 {
-    let mut i: usize = 0;
-    while i < n {
+    for i in 0..n {
         if !attributes_fit(task_at(attributes, i)) {
             return false;
         }
-        i += 1;
     }
     true
 }
@@ -570,8 +562,7 @@ fn pairs_fit(pairs: &Pairs, start: usize, n: usize, limit_a: u32, limit_b: u32) 
         first: 0,
         second: 0,
     };
-    let mut q: usize = 0;
-    while q < n {
+    for q in 0..n {
         let x = TaskSet::OF_PAIR * (start + q);
         let a = wide16(pairs[x]);
         let b = wide16(pairs[x + 1]);
@@ -582,7 +573,6 @@ fn pairs_fit(pairs: &Pairs, start: usize, n: usize, limit_a: u32, limit_b: u32) 
             first: a,
             second: b + 1,
         };
-        q += 1;
     }
     true
 }
@@ -604,7 +594,7 @@ fn heading_fits(tasks: u32, low: Key, x: u32, y: u32, pairs: u32, used: usize) -
     used + wide(pairs) <= TaskSet::MOST_PAIRS
 }
 
-// A pattern with its pairs keeps rule 6, after the patterns before it, and how many links it makes.
+// How many links a pattern makes, if it keeps rule 6 with its pairs, after the patterns before it.
 fn pattern_fits(
     f: Counts,
     p: Pattern,
@@ -612,16 +602,12 @@ fn pattern_fits(
     used: usize,
     attributes: &Attributes,
     pairs: &Pairs,
-) -> Tested
+) -> Option<u64>
     requires { (f.tasks ≤ 64) × (used ≤ 1024) }
     ensures { result ≡ pattern_tested f.edition (tasks_of f.tasks attributes.now) f.ticks pairs.now low used p }
 {
-    let none = Tested {
-        fits: false,
-        links: 0,
-    };
     if !heading_fits(f.tasks as u32, low, p.from, p.to, p.pairs, used) {
-        return none;
+        return None;
     }
     let s = spans_of(
         f.edition,
@@ -629,24 +615,20 @@ fn pattern_fits(
         attributes[TaskSet::OF_TASK * wide(p.to)],
     );
     if !pairs_fit(pairs, used, wide(p.pairs), s.first, s.second) {
-        return none;
+        return None;
     }
-    Tested {
-        fits: true,
-        links: links_in(p.pairs, f.ticks, s.whole),
-    }
+    Some(links_in(p.pairs, f.ticks, s.whole))
 }
 
-// The patterns with their pairs keep rule 6, and how many links they make. The tables have one lifetime, so that the fields of one set can be lent together.
+// How many links the patterns make, if they keep rule 6 with their pairs. The tables have one lifetime, so that the fields of one set can be lent together.
 fn patterns_fit<'a>(
     f: Counts,
     attributes: &'a Attributes,
     headings: &'a Headings,
     pairs: &'a Pairs,
-) -> Tested
+) -> Option<u64>
     requires { PatternsAsked (tasks_of f.tasks attributes.now) (patterns_of f.patterns headings.now pairs.now) f.ticks }
-    ensures { PatternsTested f.edition (tasks_of f.tasks attributes.now)
-        (patterns_of f.patterns headings.now pairs.now) result }
+    ensures { result ≡ patterns_tested f.edition (tasks_of f.tasks attributes.now) (patterns_of f.patterns headings.now pairs.now) }
 {
     let mut low = Key {
         first: 0,
@@ -654,44 +636,35 @@ fn patterns_fit<'a>(
     };
     let mut used: usize = 0;
     let mut links: u64 = 0;
-    let mut k: usize = 0;
-    while k < f.patterns {
+    for k in 0..f.patterns {
         let p = pattern_at(headings, k);
-        let r = pattern_fits(f, p, low, used, attributes, pairs);
-        if !r.fits {
-            return r;
-        }
+        let made = pattern_fits(f, p, low, used, attributes, pairs)?;
         low = Key {
             first: p.from,
             second: p.to + 1,
         };
         used += wide(p.pairs);
-        links += r.links;
-        k += 1;
+        links += made;
     }
-    Tested { fits: true, links }
+    Some(links)
 }
 
-// The cycle of a set that the reader would let through; 0 ticks for any other.
-fn sound_cycle(set: TaskSet) -> Cycle
+// The cycle of a set that the reader would let through.
+fn sound_cycle(set: TaskSet) -> Option<Cycle>
     ensures { result ≡ sound_cycle (view set) }
 {
-    let none = Cycle { ticks: 0, jobs: 0 };
     let n = set.tasks;
     let m = set.processors;
     if !opening_fits(set.edition, n, m) {
-        return none;
+        return None;
     }
     if !tasks_fit(&set.attributes, n) {
-        return none;
+        return None;
     }
-    let c = cycle_of(&set.attributes, n);
-    if c.ticks == 0 {
-        return none;
-    }
+    let c = cycle_of(&set.attributes, n)?;
     let k = set.patterns;
     if TaskSet::MOST_PATTERNS < k {
-        return none;
+        return None;
     }
     let f = Counts {
         edition: set.edition,
@@ -701,35 +674,31 @@ fn sound_cycle(set: TaskSet) -> Cycle
         ticks: c.ticks,
         jobs: c.jobs,
     };
-    let r = patterns_fit(f, &set.attributes, &set.headings, &set.pairs);
-    if !r.fits {
-        return none;
+    let links = patterns_fit(f, &set.attributes, &set.headings, &set.pairs)?;
+    if TaskSet::MOST_LINKS < links {
+        return None;
     }
-    if TaskSet::MOST_LINKS < r.links {
-        return none;
-    }
-    c
+    Some(c)
 }
 
 // Rule 10: whether the reader would let this set through.
 pub fn is_sound(set: TaskSet) -> bool
     ensures { result ≡ sound (view set) }
 {
-    let cycle = sound_cycle(set);
-    cycle.ticks != 0
+    sound_cycle(set).is_some()
 }
 
-// The numbers of a set that keeps rule 10; 0 ticks and jobs for any other.
-pub fn counts_of(set: TaskSet) -> Counts
+// The numbers of a set that keeps rule 10.
+pub fn counts_of(set: TaskSet) -> Option<Counts>
     ensures { result ≡ counts_of (view set) }
 {
-    let cycle = sound_cycle(set);
-    Counts {
+    let cycle = sound_cycle(set)?;
+    Some(Counts {
         edition: set.edition,
         processors: set.processors,
         tasks: set.tasks,
         patterns: set.patterns,
         ticks: cycle.ticks,
         jobs: cycle.jobs,
-    }
+    })
 }

@@ -14,7 +14,7 @@ pub nonzero_div-result-2 : goal.nonzero_div-result-2
 nonzero_div-result-2 c = (holds_at 1 6001 _ (both {a = holds periods c.args.s} (multiple_some _ _ c.common_multiple-p.ensures c.if-p-eq0.false).0).1).0
 
 pub overflow_mul-result : goal.overflow_mul-result
-overflow_mul-result c = omega (arith, reach_low _ _ c.of-e.ensures (shares_low _ _ c.common_multiple-p.ensures c.if-p-eq0.false).1)
+overflow_mul-result c = omega (arith, reach_low _ _ c.rounds_of-rounds.ensures (shares_low _ _ c.common_multiple-p.ensures c.if-p-eq0.false).1)
 
 pub returns : goal.returns
-returns c = spans_some _ _ _ c.common_multiple-p.ensures c.if-p-eq0.false c.of-e.ensures
+returns c = spans_some _ _ _ c.common_multiple-p.ensures c.if-p-eq0.false c.rounds_of-rounds.ensures
