@@ -547,10 +547,7 @@ pub fn low_second(low: Key, x: u32) -> u32
 fn is_rising(low: Key, limit_a: u32, limit_b: u32, x: u32, y: u32) -> bool
     ensures { result ≡ rises low limit_a limit_b x y }
 {
-    if !is_within(x, low.first, limit_a) {
-        return false;
-    }
-    is_within(y, low_second(low, x), limit_b)
+    is_within(x, low.first, limit_a) && is_within(y, low_second(low, x), limit_b)
 }
 
 // The n pairs from a place on are in their ranges and in order.
@@ -591,7 +588,7 @@ fn heading_fits(tasks: u32, low: Key, x: u32, y: u32, pairs: u32, used: usize) -
     if pairs < Pattern::FEWEST_PAIRS {
         return false;
     }
-    used + wide(pairs) <= TaskSet::MOST_PAIRS
+    used + pairs as usize <= TaskSet::MOST_PAIRS
 }
 
 // How many links a pattern makes, if it keeps rule 6 with its pairs, after the patterns before it.
@@ -611,10 +608,10 @@ fn pattern_fits(
     }
     let s = spans_of(
         f.edition,
-        attributes[TaskSet::OF_TASK * wide(p.from)],
-        attributes[TaskSet::OF_TASK * wide(p.to)],
+        attributes[TaskSet::OF_TASK * p.from as usize],
+        attributes[TaskSet::OF_TASK * p.to as usize],
     );
-    if !pairs_fit(pairs, used, wide(p.pairs), s.first, s.second) {
+    if !pairs_fit(pairs, used, p.pairs as usize, s.first, s.second) {
         return None;
     }
     Some(links_in(p.pairs, f.ticks, s.whole))
@@ -643,7 +640,7 @@ fn patterns_fit<'a>(
             first: p.from,
             second: p.to + 1,
         };
-        used += wide(p.pairs);
+        used += p.pairs as usize;
         links += made;
     }
     Some(links)

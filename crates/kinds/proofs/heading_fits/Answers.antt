@@ -27,5 +27,4 @@ returns c =
       sym c.is_rising.ensures ∙ c.if-not-is_rising.false,
       ne_eqb _ _ c.if-x-y.false,
       le-leb 1 c.args.pairs c.if-pairs-lt-FEWEST_PAIRS.false,
-      c.wide.ensures.0,
     )

@@ -2,10 +2,10 @@ use Rattle.kinds.specs.Limits.{rises}
 use Rattle.std.proofs.Common.{sym, ◌∙◌}
 use Rattle.kinds.proofs.is_rising.Goals as goal
 
-pub returns-then-not-is_within : goal.returns-then-not-is_within
+pub returns-then-is_within : goal.returns-then-is_within
 unfolding rises
-returns-then-not-is_within c = rw (sym c.is_within.ensures ∙ c.if-not-is_within.true)
+returns-then-is_within c = rw (sym c.is_within.ensures ∙ c.if-is_within.true, ← c.low_second.ensures) c.is_within-then-is_within.ensures
 
-pub returns : goal.returns
+pub returns-else-is_within : goal.returns-else-is_within
 unfolding rises
-returns c = rw (sym c.is_within.ensures ∙ c.if-not-is_within.false, ← c.low_second.ensures) c.is_within-2.ensures
+returns-else-is_within c = rw (sym c.is_within.ensures ∙ c.if-is_within.false) (c.if-is_within.false)

@@ -1,4 +1,4 @@
-use Rattle.std.specs.Prelude.{◌≡◌, None}
+use Rattle.std.specs.Prelude.{◌≡◌, refl, None}
 use Rattle.std.proofs.Common.{◌∙◌, arith}
 use Rattle.kinds.proofs.PatternWalk.{walk_from_lem, walk_stop, walk_facts, walk_turn, tested_no, tested_yes}
 use Rattle.kinds.proofs.patterns_fit.Goals as goal
@@ -22,12 +22,12 @@ overflow_add-low c =
 pub overflow_add-used : goal.overflow_add-used
 overflow_add-used c =
     let f = walk_facts _ _ _ _ c.requires _ c.loop-k.invariant c.loop-k-test.true c.pattern_at-p.ensures c.in_ok-made.ensures in
-    omega (arith, f.room, c.wide-used.ensures)
+    omega (arith, f.room)
 
 -- That the next turn has what it needs also bounds the sum of links.
 pub loop-k-preserved : goal.loop-k-preserved
 loop-k-preserved c =
-    walk_turn _ _ _ _ c.requires _ c.loop-k.invariant c.loop-k-test.true c.pattern_at-p.ensures c.in_ok-made.ensures c.wide-used.ensures.0
+    walk_turn _ _ _ _ c.requires _ c.loop-k.invariant c.loop-k-test.true c.pattern_at-p.ensures c.in_ok-made.ensures refl
 
 pub overflow_add-links : goal.overflow_add-links
 overflow_add-links c = let w = loop-k-preserved c in omega (arith, w.few, w.room)

@@ -1,4 +1,3 @@
-use Prim.Native.Nat.{◌-◌}
 use Rattle.vocabulary.specs.Least.{Passing}
 use Rattle.kinds.specs.Tasks.{tasks_of}
 use Rattle.kinds.specs.Sound.{task_fits}
@@ -6,6 +5,3 @@ use Rattle.kinds.proofs.tasks_fit.Given as goal
 
 abbrev pub invariant-loop-i : goal.invariant-loop-i
 invariant-loop-i l = Passing (task_fits (tasks_of l.n l.attributes)) l.n l.i
-
-abbrev pub decreases-loop-i : goal.decreases-loop-i
-decreases-loop-i l = l.n - l.i
