@@ -11,18 +11,6 @@ use Rattle.kinds.proofs.jobs_in.Goals as goal
 pub loop-i-init : goal.loop-i-init
 loop-i-init c = (search rules, sym (total_none _), search rules)
 
-pub overflow_mul-total : goal.overflow_mul-total
-overflow_mul-total c = omega (arith, c.requires.0)
-
-pub bounds-attributes-i : goal.bounds-attributes-i
-bounds-attributes-i c = omega (arith, c.requires.0)
-
-pub nonzero_div-total : goal.nonzero_div-total
-nonzero_div-total c = c.requires.2 _ c.loop-i-test.true
-
-pub overflow_add-total : goal.overflow_add-total
-overflow_add-total c = omega (arith, c.requires.0, c.requires.1, div-le_self c.args.h (get_or c.args.attributes.now (4 * c.loop-i.i) 0))
-
 pub loop-i-preserved : goal.loop-i-preserved
 loop-i-preserved c =
     let l = c.loop-i in

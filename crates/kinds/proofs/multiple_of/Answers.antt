@@ -1,11 +1,11 @@
 use mathlib.Core.Path.{sym}
 use Prim.Native.Nat.{ℕ, ◌*◌, ◌≤◌}
-use native.Mathlib.Nat.{dvd_of_mod-eq-zero, mul-le-mul, lt_of_le_of_lt}
+use native.Mathlib.Nat.{dvd_of_mod-eq-zero, lt_of_le_of_lt}
 use native.Mathlib.Omega.{arith}
 use lib.Dec.{lit<}
 use lib.Ieee.{size}
-use Rattle.vocabulary.proofs.Multiple.{lcm_le, lcm_whole}
-use Rattle.vocabulary.proofs.Divisor.{euclid_from, euclid_on, euclid_room, euclid_done, euclid_less, euclid_few}
+use Rattle.vocabulary.proofs.Multiple.{lcm_whole}
+use Rattle.vocabulary.proofs.Divisor.{euclid_from, euclid_on, euclid_done, euclid_less, euclid_few}
 use Rattle.kinds.proofs.multiple_of.Goals as goal
 
 -- so that there are no more than 26.
@@ -18,22 +18,11 @@ returns-then-y-eq0 c = sym (lcm_whole _ _ c.requires.0 (dvd_of_mod-eq-zero _ c.i
 pub loop-y-init : goal.loop-y-init
 loop-y-init c = euclid_from _ _ c.requires.2
 
-pub overflow_mul-more : goal.overflow_mul-more
-overflow_mul-more c = omega (arith, euclid_room _ _ _ _ _ _ c.loop-y.invariant (omega (arith, c.loop-y-test.true)), c.requires.1)
-
-pub overflow_add-more : goal.overflow_add-more
-overflow_add-more c = omega (arith, euclid_room _ _ _ _ _ _ c.loop-y.invariant (omega (arith, c.loop-y-test.true)), c.requires.1)
-
 pub loop-y-smaller : goal.loop-y-smaller
 loop-y-smaller c = euclid_less _ _ (omega (arith, c.loop-y-test.true)) c.loop-y.invariant.falls
 
 pub loop-y-preserved : goal.loop-y-preserved
 loop-y-preserved c = euclid_on _ _ _ _ _ _ c.loop-y.invariant (omega (arith, c.loop-y-test.true))
-
-pub overflow_mul-result : goal.overflow_mul-result
-overflow_mul-result c =
-    let p = c.requires in
-    omega (arith, euclid_done _ _ _ _ _ _ p.0 p.2 c.loop-y.invariant c.loop-y-test.false, lcm_le _ _ p.0 p.2, mul-le-mul p.1 p.3)
 
 pub returns : goal.returns
 returns c = let p = c.requires in euclid_done _ _ _ _ _ _ p.0 p.2 c.loop-y.invariant c.loop-y-test.false

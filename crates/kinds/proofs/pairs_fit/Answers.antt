@@ -1,5 +1,4 @@
 use mathlib.Core.Path.{sym, ◌∙◌, refl}
-use native.Mathlib.Omega.{arith}
 use Rattle.vocabulary.proofs.Least.{pass_from, pass_on, pass_end, all_fails}
 use Rattle.kinds.specs.Sound.{pair_key}
 use Rattle.kinds.specs.RangeLaws.{pair_key_more, pair_fits_lem}
@@ -9,27 +8,12 @@ pub loop-q-init : goal.loop-q-init
 unfolding pair_key
 loop-q-init c = (pass_from _ _, refl)
 
-pub overflow_mul-x : goal.overflow_mul-x
-overflow_mul-x c = omega (arith, c.requires)
-
-pub bounds-pairs-x : goal.bounds-pairs-x
-bounds-pairs-x c = omega (arith, c.requires)
-
-pub overflow_add-x-in-loop-q : goal.overflow_add-x-in-loop-q
-overflow_add-x-in-loop-q c = omega (arith, c.requires)
-
-pub bounds-pairs-x-in-loop-q : goal.bounds-pairs-x-in-loop-q
-bounds-pairs-x-in-loop-q c = omega (arith, c.requires)
-
 pub returns-then-not-is_rising : goal.returns-then-not-is_rising
 returns-then-not-is_rising c =
     let v = c.loop-q.invariant in
     let a = c.wide16-a.ensures.0 in
     let b = c.wide16-b.ensures.0 in
     sym (all_fails _ _ _ c.loop-q-test.true (sym (pair_fits_lem _ _ _ _ _ v.1 a b c.is_rising.ensures) ∙ c.if-not-is_rising.true))
-
-pub overflow_add-low : goal.overflow_add-low
-overflow_add-low c = omega (arith, c.wide16-b.ensures)
 
 pub loop-q-preserved : goal.loop-q-preserved
 loop-q-preserved c =

@@ -9,18 +9,6 @@ use Rattle.kinds.proofs.pairs_in.Goals as goal
 pub loop-k-init : goal.loop-k-init
 loop-k-init c = (search rules, sym (pairs_none _), search rules)
 
-pub overflow_mul-k : goal.overflow_mul-k
-overflow_mul-k c = omega (arith, c.requires)
-
-pub overflow_add-k : goal.overflow_add-k
-overflow_add-k c = omega (arith, c.requires)
-
-pub bounds-headings-k : goal.bounds-headings-k
-bounds-headings-k c = omega (arith, c.requires)
-
-pub overflow_add-total : goal.overflow_add-total
-overflow_add-total c = omega (arith, c.wide-total.ensures, c.requires)
-
 pub loop-k-preserved : goal.loop-k-preserved
 loop-k-preserved c =
     let l = c.loop-k in

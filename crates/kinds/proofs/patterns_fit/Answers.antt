@@ -19,11 +19,6 @@ overflow_add-low c =
     let f = walk_facts _ _ _ _ c.requires _ c.loop-k.invariant c.loop-k-test.true c.pattern_at-p.ensures c.in_ok-made.ensures in
     omega (arith, f.to_low, c.requires.tasks)
 
-pub overflow_add-used : goal.overflow_add-used
-overflow_add-used c =
-    let f = walk_facts _ _ _ _ c.requires _ c.loop-k.invariant c.loop-k-test.true c.pattern_at-p.ensures c.in_ok-made.ensures in
-    omega (arith, f.room)
-
 -- That the next turn has what it needs also bounds the sum of links.
 pub loop-k-preserved : goal.loop-k-preserved
 loop-k-preserved c =

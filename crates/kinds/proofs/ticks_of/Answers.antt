@@ -13,12 +13,6 @@ use Rattle.kinds.proofs.ticks_of.Goals as goal
 pub loop-i-init : goal.loop-i-init
 loop-i-init c = (pass_from _ _, sym (lcm_of_none _), search rules, search rules)
 
-pub overflow_mul-i : goal.overflow_mul-i
-overflow_mul-i c = omega (arith, c.requires, c.loop-i.invariant.0.within)
-
-pub bounds-attributes-i : goal.bounds-attributes-i
-bounds-attributes-i c = omega (arith, c.requires, c.loop-i.invariant.0.within)
-
 pub returns-then-h-eq0 : goal.returns-then-h-eq0
 returns-then-h-eq0 c =
     let v = c.loop-i.invariant in
