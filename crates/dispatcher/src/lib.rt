@@ -199,10 +199,9 @@ impl State {
     fn look_at(self, set: TaskSet, plan: &[u8], report: u64, room: usize) -> Look
         ensures { result ≡ look_of (view set) plan.now self report room }
     {
-        let f = kinds::counts_of(set);
-        if f.ticks == 0 {
+        let Some(f) = kinds::counts_of(set) else {
             return refused(Answer::BadSet);
-        }
+        };
         if !lengths_fit(f, plan.len(), room) {
             return refused(Answer::WrongLength);
         }

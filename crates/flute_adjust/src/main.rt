@@ -93,7 +93,9 @@ fn print_by(
 }
 
 fn print_adjusted(rt: &impl Print, set: TaskSet) -> Result<()> {
-    let f = kinds::counts_of(set);
+    let Some(f) = kinds::counts_of(set) else {
+        return Ok(());
+    };
     let n = f.jobs as usize;
     if JOBS < n {
         return Ok(());

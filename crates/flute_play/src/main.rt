@@ -138,7 +138,9 @@ fn play_accepted<R: Files + Env + Print + Eprint + Alloc>(
 ) -> Result<()> {
     let mut reports = io::large_buffer();
     if !console::has_arg(rt, 2) {
-        let f = kinds::counts_of(set);
+        let Some(f) = kinds::counts_of(set) else {
+            return Ok(());
+        };
         return play_from(rt, set, plan, state, b"", f.ticks as usize);
     }
     let input = console::load_named(rt, 2, &mut reports)?;

@@ -48,7 +48,10 @@ fn print_patterns(rt: &impl Print, headings: &Headings, pairs: &Pairs, n: usize)
 }
 
 fn print_set(rt: &impl Print, place: usize, set: TaskSet) -> Result<()> {
-    wording::print_read(rt, place, kinds::counts_of(set))?;
+    let Some(f) = kinds::counts_of(set) else {
+        return Ok(());
+    };
+    wording::print_read(rt, place, f)?;
     wording::print_tasks(rt, &set.attributes, set.tasks, false)?;
     let k = set.patterns;
     if k == 0 {

@@ -54,7 +54,9 @@ fn put_times_by(
 }
 
 fn put_times(line: Line, set: TaskSet, i: u32, k: u32) -> Line {
-    let f = kinds::counts_of(set);
+    let Some(f) = kinds::counts_of(set) else {
+        return line;
+    };
     let n = f.jobs as usize;
     if JOBS < n {
         return line;

@@ -103,7 +103,10 @@ fn print_chart(rt: &impl Print, plan: &[u8], m: usize) -> Result<()>
 }
 
 fn show(rt: &impl Print, place: usize, set: TaskSet, plan: &[u8]) -> Result<()> {
-    wording::print_read(rt, place, kinds::counts_of(set))?;
+    let Some(f) = kinds::counts_of(set) else {
+        return Ok(());
+    };
+    wording::print_read(rt, place, f)?;
     wording::print_tasks(rt, &set.attributes, set.tasks, true)?;
     let m = set.processors as usize;
     if m == 0 {

@@ -8,14 +8,15 @@ use native.Mathlib.Omega.{arith}
 use borrow.Author.Tests.{leb-true}
 use lib.Dec.{leb, eqb}
 use Rattle.vocabulary.specs.Test.{pick}
-use Rattle.vocabulary.proofs.Test.{both, fails}
+use Rattle.vocabulary.proofs.Test.{both}
 use Rattle.kinds.specs.declared.Key.{Key}
 use Rattle.kinds.specs.declared.Cycle.{Cycle}
 use Rattle.kinds.specs.Limits.{after}
 use Rattle.kinds.specs.Tasks.{Tasks}
-use Rattle.kinds.specs.Cycle.{cycle, cycle_fits, cycle_is, periods_fit, no_cycle, cycle_of}
+use Rattle.kinds.specs.Cycle.{cycle, cycle_fits, cycle_is, periods_fit, cycle_of}
 use Rattle.kinds.specs.Links.{links_in}
-use Rattle.kinds.specs.RangeLaws.{holds_at, cycle_pos}
+use Rattle.std.specs.Prelude.{Some, None}
+use Rattle.kinds.specs.RangeLaws.{holds_at, pick_some, pick_none}
 use Rattle.kinds.proofs.PatternWalk.{HeadingFacts, heading_facts}
 use Rattle.kinds.specs.SoundByTests.{few_tasks}
 use Rattle.heads.specs.declared.Heading as answer
@@ -70,22 +71,14 @@ middle_low s at t c k q p e =
     let f = middle_fits s at t c k q (sym p ∙ e) in
     (omega (arith, holds_at 0 65 k f.few), omega (arith, f.ticks, leb-true (cycle t) 6000 (both {a = leb (cycle t) 6000} f.cycle_fits_lem).0))
 
--- ---- where the periods are in their range, the answer's ticks are 0 exactly where rule 5 is broken
-module _ (t : Tasks) {r : Cycle} (fit : periods_fit t ≡ true) (e : r ≡ cycle_of t) where
-  told : r ≡ pick (cycle_fits t) ((cycle_is t)) no_cycle
+-- ---- where the periods are in their range, there is a cycle exactly where rule 5 is kept
+module _ (t : Tasks) (fit : periods_fit t ≡ true) where
+  told : cycle_of t ≡ pick (cycle_fits t) (Some (cycle_is t)) None
   unfolding cycle_of
-  told = e ∙ rw fit
+  told = rw fit
 
-  pub cycle_broken : r.ticks ≡ 0 → cycle_fits t ≡ false
-  cycle_broken z =
-      fails
-      (λ p.
-      let c : r.ticks ≡ cycle t = ap (λ (x : Cycle). x.ticks) told ∙ rw p in
-      omega (arith, cycle_pos t))
+  pub cycle_broken : None ≡ cycle_of t → cycle_fits t ≡ false
+  cycle_broken e = pick_none (cycle_fits t) _ (e ∙ told)
 
-  pub cycle_kept : (r.ticks ≡ 0 → ⊥) → (cycle_fits t ≡ true) × (r ≡ cycle_is t)
-  cycle_kept z = by (cycle_fits t) refl told
-    where
-      by : (b : Bool) → cycle_fits t ≡ b → r ≡ pick b ((cycle_is t)) no_cycle → (cycle_fits t ≡ true) × (r ≡ cycle_is t)
-      by true p q = (p, q)
-      by false p q = absurd (z (ap (λ (x : Cycle). x.ticks) q))
+  pub cycle_kept : {c : Cycle} → Some c ≡ cycle_of t → (cycle_fits t ≡ true) × (c ≡ cycle_is t)
+  cycle_kept e = pick_some (cycle_fits t) (e ∙ told)

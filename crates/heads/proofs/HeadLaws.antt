@@ -1,6 +1,6 @@
 -- A head that was let through: its set keeps rule 10, entries beyond the counts are 0, and the cycle is that of its tasks.
 use mathlib.Core.Bool.{true}
-use mathlib.Core.Path.{◌≡◌, refl, sym, subst}
+use mathlib.Core.Path.{◌≡◌, sym, subst}
 use mathlib.Core.List.{List}
 use Prim.Native.Nat.{ℕ, ◌*◌, ◌<◌, ◌≤◌}
 use native.Mathlib.Omega.{arith}
@@ -15,8 +15,10 @@ use Rattle.kinds.specs.declared.TaskSet.{TaskSet}
 use Rattle.kinds.specs.Limits.{holds, periods, no_key}
 use Rattle.kinds.specs.Tasks.{Tasks, tasks_of, task_at, view, pairs_in}
 use Rattle.kinds.specs.Cycle.{cycle, jobs, cycle_fits}
-use Rattle.kinds.specs.Sound.{attributes_fit, task_fits, opening_fits, sound, PatternsAsked, PatternsTested}
-use Rattle.kinds.specs.RangeLaws.{holds_at}
+use Rattle.kinds.specs.Sound.{attributes_fit, task_fits, opening_fits, pattern_fits, sound, PatternsAsked, patterns_tested}
+use Rattle.std.specs.Prelude.{Some}
+use Rattle.kinds.specs.Links.{links}
+use Rattle.kinds.specs.RangeLaws.{holds_at, pick_some}
 use Rattle.kinds.proofs.PatternWalk.{walk_from_lem, tested_yes}
 use Rattle.kinds.specs.SoundByTests.{few_tasks}
 use Rattle.kinds.proofs.Rows.{row_less}
@@ -92,8 +94,12 @@ module _ (s : List ℕ) (f : Counts) (at : ℕ) (w : HeadWent s no_attributes no
   patterned =
       patterns_done s w.e w.cy.ticks t v w.k asked w.k 0 (progress w.p₂ no_key 0 0) no_pattern_tables at w.l (omega arith) (walk_from_lem w.e t (patterns_in v w.k)) no_patterns w.patterned
 
-  tested : PatternsTested w.e t (patterns_in v w.k) (record { fits = true; links = w.l })
+  tested : Some w.l ≡ patterns_tested w.e t (patterns_in v w.k)
   tested = tested_yes w.e t (patterns_in v w.k) w.k patterned.walking (omega arith)
+
+  linked : (all (pattern_fits w.e t (patterns_in v w.k)) w.k ≡ true) × (w.l ≡ links t (patterns_in v w.k))
+  unfolding patterns_tested
+  linked = pick_some (all (pattern_fits w.e t (patterns_in v w.k)) w.k) tested
 
   all_tasks : all (task_fits t) n ≡ true
   unfolding task_fits
@@ -105,7 +111,7 @@ module _ (s : List ℕ) (f : Counts) (at : ℕ) (w : HeadWent s no_attributes no
   set_sound : sound (view (set_of shape u v)) ≡ true
   unfolding sound
   set_sound =
-      rw (opened, all_tasks, between.cycle_fits_lem, between.few, sym tested.fits, sym (tested.links refl)) w.few
+      rw (opened, all_tasks, between.cycle_fits_lem, between.few, linked.0, ← linked.1) w.few
 
   set_blank : Blank (set_of shape u v)
   set_blank =

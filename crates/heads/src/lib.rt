@@ -341,10 +341,9 @@ fn read_middle(file: &[u8], at: usize, n: usize, attributes: &Attributes) -> Mid
     requires { periods_fit (tasks_of n attributes.now) ≡ true }
     ensures { result ≡ middle_from file.now at (tasks_of n attributes.now) }
 {
-    let cycle = kinds::cycle_of(attributes, n);
-    if cycle.ticks == 0 {
+    let Some(cycle) = kinds::cycle_of(attributes, n) else {
         return Middle::Refused(Refusal::TooLong(at));
-    }
+    };
     match numbers::read_within(file, at, 0, PATTERN_LIMIT, Refusal::OutOfLimits(at)) {
         Got::Refused(r) => Middle::Refused(r),
         Got::Value(k, p) => Middle::Of(cycle, k, p),

@@ -156,10 +156,9 @@ fn judge_tables<'a>(
 pub fn judge(set: TaskSet, plan: &[u8]) -> Verdict
     ensures { result ≡ verdict_of (view set) plan.now }
 {
-    let f = kinds::counts_of(set);
-    if f.ticks == 0 {
+    let Some(f) = kinds::counts_of(set) else {
         return Verdict::BadSet;
-    }
+    };
     judge_tables(f, &set.attributes, &set.headings, &set.pairs, plan)
 }
 

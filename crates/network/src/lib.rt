@@ -122,10 +122,9 @@ fn solve_in<'a>(
 pub fn solve(set: TaskSet, releases: &mut [i32], deadlines: &mut [i32]) -> Found
     ensures { SolvedFor (view set) releases.old deadlines.old result releases.new deadlines.new }
 {
-    let f = kinds::counts_of(set);
-    if f.ticks == 0 {
+    let Some(f) = kinds::counts_of(set) else {
         return none();
-    }
+    };
     solve_in(
         f,
         &set.attributes,

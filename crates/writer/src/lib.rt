@@ -79,10 +79,9 @@ fn write_tables<'a>(
 pub fn write(set: TaskSet, plan: &[u8], out: &mut [u8]) -> Written
     ensures { write_leaves result out.new ≡ write_for (view set) plan.now out.old }
 {
-    let f = kinds::counts_of(set);
-    if f.ticks == 0 {
+    let Some(f) = kinds::counts_of(set) else {
         return Written::BadSet;
-    }
+    };
     write_tables(f, &set.attributes, &set.headings, &set.pairs, plan, out)
 }
 

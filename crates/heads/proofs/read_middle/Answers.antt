@@ -3,18 +3,18 @@ use Rattle.heads.specs.Heads.{middle_from}
 use Rattle.heads.proofs.Bounds.{cycle_broken, cycle_kept}
 use Rattle.heads.proofs.read_middle.Goals as goal
 
-pub returns-then-cycle-eq0 : goal.returns-then-cycle-eq0
+pub returns-in_default : goal.returns-in_default
 unfolding middle_from
-returns-then-cycle-eq0 c = simp (cycle_broken _ c.requires c.cycle_of-cycle.ensures c.if-cycle-eq0.true)
+returns-in_default c = simp (cycle_broken _ c.requires c.in_default.ensures)
 
 pub returns-in-Refused : goal.returns-in-Refused
 unfolding middle_from and_then
 returns-in-Refused c =
-    let w = cycle_kept _ c.requires c.cycle_of-cycle.ensures c.if-cycle-eq0.false in
+    let w = cycle_kept _ c.requires c.in-Some.ensures in
     simp (w.0, ← c.read_within.ensures, c.in-Refused.is)
 
 pub returns-in-Value : goal.returns-in-Value
 unfolding middle_from and_then
 returns-in-Value c =
-    let w = cycle_kept _ c.requires c.cycle_of-cycle.ensures c.if-cycle-eq0.false in
+    let w = cycle_kept _ c.requires c.in-Some.ensures in
     simp (w.0, ← w.1, ← c.read_within.ensures, c.in-Value.is)
