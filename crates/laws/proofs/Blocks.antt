@@ -5,7 +5,7 @@ use Prim.Native.Nat.{ℕ, ◌+◌, ◌-◌, ◌*◌, ◌/◌, ◌<◌, ◌≤◌
 use Rattle.std.proofs.Math.Nat.{le_of_dvd, div-mul_cancel, div-eq_of_eq-mul_left, add-mul-div_right}
 use borrow.Author.Tests.{lt-ltb, le-ltb}
 use Rattle.vocabulary.proofs.Test.{and_false, lt_or_le, clash}
-use Rattle.kinds.specs.Editions.{edition_of}
+use Rattle.kinds.specs.Editions.{rounds_of}
 use Rattle.kinds.specs.Tasks.{Tasks, Patterns, Set, period, from_task, to_task, pair_count, pair_second}
 use Rattle.kinds.specs.Cycle.{cycle, jobs_of}
 use Rattle.kinds.specs.Links.{common, link_from, link_to, repeats, inner}
@@ -46,7 +46,7 @@ module _ (s : Set) (f : Sound s) (k : ℕ) (lk : k < s.patterns.count) where
 
   module _ (q : ℕ) (lq : q < pair_count s.patterns k) where
     -- A pair's second number leads over as many rounds as its edition allows,
-    pub round_known : round_of s.tasks s.patterns k q < (edition_of s.edition).rounds
+    pub round_known : round_of s.tasks s.patterns k q < rounds_of s.edition
     unfolding round_of
     round_known = (div-lt_iff_lt-mul some_round).1 (f.second_low k q lk lq)
 
@@ -78,7 +78,7 @@ module _ (s : Set) (f : Sound s) (k : ℕ) (lk : k < s.patterns.count) where
       leaves l = rw (le-ltb (link_to u v k q n) (jobs_of u (to_task v k)) (past l)) (and_false (ltb (link_from u v k q n) (jobs_of u (from_task v k))))
 
       -- ==== So where the edition reaches over one round, every link of a cycle lies within the block,
-      pub first_stays : (edition_of s.edition).rounds ≡ 1 → n < repeats s.tasks s.patterns k → inner s.tasks s.patterns k q n ≡ true
+      pub first_stays : rounds_of s.edition ≡ 1 → n < repeats s.tasks s.patterns k → inner s.tasks s.patterns k q n ≡ true
       first_stays e l = stays (omega (arith, round_known))
 
       late : inner u v k q n ≡ false → repeats u v k ≤ n + round_of u v k q

@@ -8,7 +8,7 @@ use Rattle.vocabulary.specs.Least.{all}
 use Rattle.vocabulary.proofs.Least.{all_at, all_from}
 use Rattle.kinds.specs.declared.Key.{Key}
 use Rattle.kinds.specs.Limits.{holds, pattern_counts, first_range, rises}
-use Rattle.kinds.specs.Editions.{editions, edition_of}
+use Rattle.kinds.specs.Editions.{editions, rounds_of}
 use Rattle.kinds.specs.RangeLaws.{holds_at, holds_yes}
 use Rattle.kinds.specs.Tasks.{Tasks, Patterns, Set, period, from_task, to_task, pair_count, pairs_before}
 use Rattle.kinds.specs.Cycle.{cycle, jobs_of, cycle_fits}
@@ -40,7 +40,7 @@ wider_rises low la lb lb' x y l h =
     let b = holds_at (pick (eqb x low.first) low.second 0) lb y w.1 in
     rw w.0 (holds_yes (pick (eqb x low.first) low.second 0) lb' y b.0 (omega arith))
 
-wider_pattern : (e e' : ℕ) (u : Tasks) (v : Patterns) (k : ℕ) → (edition_of e).rounds ≤ (edition_of e').rounds
+wider_pattern : (e e' : ℕ) (u : Tasks) (v : Patterns) (k : ℕ) → rounds_of e ≤ rounds_of e'
     → pattern_fits e u v k ≡ true → pattern_fits e' u v k ≡ true
 unfolding pattern_fits pair_fits
 wider_pattern e e' u v k l h =
@@ -48,12 +48,12 @@ wider_pattern e e' u v k l h =
     let c : ℕ = common u v k / period u (to_task v k) in
     let w = both {a = heading_fits u.count (pattern_key v k) (from_task v k) (to_task v k) (pair_count v k) (pairs_before v k)} h in
     rw w.0
-    (all_from (pair_fits v.pairs (pairs_before v k) a ((edition_of e').rounds * c)) (pair_count v k) (λ q lq.
-    wider_rises (pair_key v.pairs (pairs_before v k) q) a ((edition_of e).rounds * c) ((edition_of e').rounds * c) _ _ (mul-le-mul l (le_refl c))
-    (all_at (pair_fits v.pairs (pairs_before v k) a ((edition_of e).rounds * c)) (pair_count v k) w.1 q lq)))
+    (all_from (pair_fits v.pairs (pairs_before v k) a (rounds_of e' * c)) (pair_count v k) (λ q lq.
+    wider_rises (pair_key v.pairs (pairs_before v k) q) a (rounds_of e * c) (rounds_of e' * c) _ _ (mul-le-mul l (le_refl c))
+    (all_at (pair_fits v.pairs (pairs_before v k) a (rounds_of e * c)) (pair_count v k) w.1 q lq)))
 
 -- ==== A set that is sound is so in every known edition that reaches as far: what edition 1 allows edition 2 allows.
-pub wider_sound : (s : Set) (e : ℕ) → holds editions e ≡ true → (edition_of s.edition).rounds ≤ (edition_of e).rounds
+pub wider_sound : (s : Set) (e : ℕ) → holds editions e ≡ true → rounds_of s.edition ≤ rounds_of e
     → sound s ≡ true → sound (in_edition e s) ≡ true
 unfolding sound opening_fits
 wider_sound s e known l h =
