@@ -11,7 +11,7 @@ use Rattle.vocabulary.specs.Test.{pick}
 use Rattle.vocabulary.proofs.Test.{took, missed}
 use Rattle.vocabulary.specs.Parts.{PartAt}
 use Rattle.numbers.specs.Numbers.{number_at, number_bytes}
-use Rattle.numbers.specs.Results.{err_ok, ok_first, ok_rest}
+use Rattle.numbers.specs.Results.{err_ok, ok_first, ok_second}
 use Rattle.numbers.specs.Bytes.{third_at, second_at, number_is}
 
 -- a list of bytes
@@ -145,7 +145,7 @@ module _ (s : List ℕ) (bytes : Bytes s) (at v next : ℕ) where
       let far : at + 2 < length s = leb-false (length s) (at + 2) a.0 in
       let low : get_or s (at + 2) 0 < 128 = ltb-true (get_or s (at + 2) 0) 128 c.0 in
       let some : get_or s (at + 2) 0 ≡ 0 → ⊥ = eqb-false (get_or s (at + 2) 0) 0 b.0 in
-      let n : at + 3 ≡ next = ok_rest c.1 in
+      let n : at + 3 ≡ next = ok_second c.1 in
       let z : get_or s at 0 - 128 + 128 * (get_or s (at + 1) 0 - 128) + 16384 * get_or s (at + 2) 0 ≡ v = ok_first c.1 in
       let m : get_or s (at + 1) 0 < 256 = bytes (at + 1) w in
       rw n at
@@ -162,7 +162,7 @@ module _ (s : List ℕ) (bytes : Bytes s) (at v next : ℕ) where
           → pick x (Ok (get_or s at 0 - 128 + 128 * get_or s (at + 1) 0, at + 2))
           (third_at s at (get_or s at 0 - 128 + 128 * (get_or s (at + 1) 0 - 128))) ≡ Ok (v, next) → FormAt s at v next
       by true q w some c =
-          let n : at + 2 ≡ next = ok_rest c in
+          let n : at + 2 ≡ next = ok_second c in
           let z : get_or s at 0 - 128 + 128 * get_or s (at + 1) 0 ≡ v = ok_first c in
           let low : get_or s (at + 1) 0 < 128 = ltb-true (get_or s (at + 1) 0) 128 q in
           rw n at (at_two s at v (omega (arith, some)) (omega arith) w (omega arith) (omega arith))
@@ -177,7 +177,7 @@ module _ (s : List ℕ) (bytes : Bytes s) (at v next : ℕ) where
       by : (x : Bool) → ltb (get_or s at 0) 128 ≡ x → at < length s
           → pick x (Ok (get_or s at 0, at + 1)) (second_at s at (get_or s at 0 - 128)) ≡ Ok (v, next) → FormAt s at v next
       by true q w c =
-          let n : at + 1 ≡ next = ok_rest c in
+          let n : at + 1 ≡ next = ok_second c in
           let z : get_or s at 0 ≡ v = ok_first c in
           let low : get_or s at 0 < 128 = ltb-true (get_or s at 0) 128 q in
           rw n at (at_one s at v (omega arith) w z)

@@ -15,16 +15,21 @@ module _ {A E : Type 0} where
   pub same_err : {d e : E} → ◌≡◌ {A = Result A E} (Err d) (Err e) → d ≡ e
   same_err h = cc h
 
-module _ {A B E : Type 0} where
-  pub ok_first : {a x : A} {b y : B} → ◌≡◌ {A = Result (A × B) E} (Ok (a, b)) (Ok (x, y)) → a ≡ x
-  ok_first h = ap (λ (p : A × B). p.0) (same_ok h)
+-- pairs
+module _ {A B E : Type 0} {a x : A} {b y : B} (h : ◌≡◌ {A = Result (A × B) E} (Ok (a, b)) (Ok (x, y))) where
+  pub ok_first : a ≡ x
+  ok_first = ap (λ (p : A × B). p.0) (same_ok h)
 
-  pub ok_rest : {a x : A} {b y : B} → ◌≡◌ {A = Result (A × B) E} (Ok (a, b)) (Ok (x, y)) → b ≡ y
-  ok_rest h = ap (λ (p : A × B). p.1) (same_ok h)
+  pub ok_second : b ≡ y
+  ok_second = ap (λ (p : A × B). p.1) (same_ok h)
 
-module _ {A B C E : Type 0} where
-  pub ok_second : {a x : A} {b y : B} {c z : C} → ◌≡◌ {A = Result (A × B × C) E} (Ok (a, b, c)) (Ok (x, y, z)) → b ≡ y
-  ok_second h = ap (λ (p : A × B × C). p.1) (same_ok h)
+-- triples
+module _ {A B C E : Type 0} {a x : A} {b y : B} {c z : C} (h : ◌≡◌ {A = Result (A × B × C) E} (Ok (a, b, c)) (Ok (x, y, z))) where
+  pub ok3_first : a ≡ x
+  ok3_first = ap (λ (p : A × B × C). p.0) (same_ok h)
 
-  pub ok_third : {a x : A} {b y : B} {c z : C} → ◌≡◌ {A = Result (A × B × C) E} (Ok (a, b, c)) (Ok (x, y, z)) → c ≡ z
-  ok_third h = ap (λ (p : A × B × C). p.2) (same_ok h)
+  pub ok3_second : b ≡ y
+  ok3_second = ap (λ (p : A × B × C). p.1) (same_ok h)
+
+  pub ok3_third : c ≡ z
+  ok3_third = ap (λ (p : A × B × C). p.2) (same_ok h)
