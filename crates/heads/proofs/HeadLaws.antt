@@ -6,6 +6,7 @@ use Prim.Native.Nat.{ℕ, ◌*◌, ◌<◌, ◌≤◌}
 use native.Mathlib.Omega.{arith}
 use borrow.Author.Tests.{leb-true}
 use lib.Dec.{leb}
+use Rattle.std.specs.Prelude.{Ok}
 use Rattle.vocabulary.proofs.Test.{both}
 use Rattle.vocabulary.specs.Least.{all}
 use Rattle.vocabulary.proofs.Least.{all_from}
@@ -24,7 +25,6 @@ use Rattle.kinds.specs.SoundByTests.{few_tasks}
 use Rattle.kinds.proofs.Rows.{row_less}
 use Rattle.kinds.proofs.Blank.{Blank}
 use Rattle.kinds.specs.declared.Counts.{Counts}
-use Rattle.heads.specs.declared.Head.TheVariants as head
 use Rattle.heads.specs.Tables.{PatternTables, no_attributes, no_pattern_tables, progress}
 use Rattle.heads.specs.Heads.{counts_are, HeadRead, head_read, head_from, set_of}
 use Rattle.heads.proofs.ReadInRange.{opening_fits_lem, MiddleFits, middle_fits}
@@ -122,12 +122,12 @@ module _ (s : List ℕ) (f : Counts) (at : ℕ) (w : HeadWent s no_attributes no
         pairs = row_less v.pairs 2048 (2 * patterned.used) (2 * pairs_in v.headings w.k) (omega (arith, patterned.walking.before)) r.pairs;
       }
 
-  went_sound : HeadSound (head_read (head.Of f at) u v) f
+  went_sound : HeadSound (head_read (Ok (f, at)) u v) f
   went_sound =
-      subst (λ (g : Counts). HeadSound (head_read (head.Of f at) u v) g) w.shape
+      subst (λ (g : Counts). HeadSound (head_read (Ok (f, at)) u v) g) w.shape
       (record { is_sound = set_sound; blank = set_blank; ticks = between.ticks; jobs = between.jobs })
 
-pub head_sound : (s : List ℕ) (f : Counts) (at : ℕ) → (head_of s).outcome ≡ head.Of f at → HeadSound (head_of s) f
+pub head_sound : (s : List ℕ) (f : Counts) (at : ℕ) → (head_of s).outcome ≡ Ok (f, at) → HeadSound (head_of s) f
 head_sound s f at e =
     let w = head_went s no_attributes no_pattern_tables f at e in
     subst (λ (r : HeadRead). HeadSound r f) (sym w.is) (went_sound s f at w)

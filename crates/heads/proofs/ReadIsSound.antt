@@ -7,6 +7,7 @@ use native.Mathlib.Omega.{arith}
 use borrow.Author.Count.{below_more}
 use borrow.Author.Tests.{le-leb}
 use lib.ListN.{length, set, length-set}
+use Rattle.std.specs.Prelude.{Ok}
 use Rattle.vocabulary.proofs.Test.{both}
 use Rattle.vocabulary.specs.Least.{all, Passing}
 use Rattle.vocabulary.proofs.Least.{all_from, pass_from, pass_on, pass_end}
@@ -23,11 +24,9 @@ use Rattle.kinds.specs.Sound.{attributes_fit, pair_key, pair_fits, heading_fits,
 use Rattle.kinds.specs.RangeLaws.{pair_key_more, pair_fits_lem}
 use Rattle.kinds.proofs.PatternWalk.{Walking, walk_on, heading_facts}
 use Rattle.kinds.proofs.Rows.{task_row, task_kept, task_there, task_below, heading_row, heading_there, pair_there}
-use Rattle.heads.specs.declared.Outcome.{Outcome}
-use Rattle.heads.specs.declared.Outcome.TheVariants as outcome
 use Rattle.heads.specs.declared.Progress.{Progress}
-use Rattle.heads.specs.declared.Linked.TheVariants as linked
-use Rattle.heads.specs.Tables.{no_attributes, TasksRead, tasks_read, tasks_from, PairsRead, pairs_from, PatternTables, with_pattern, progress, PatternsRead, patterns_from, patterns_read}
+use Rattle.numbers.specs.Results.{ok_second}
+use Rattle.heads.specs.Tables.{Outcome, no_attributes, TasksRead, tasks_read, tasks_from, PairsRead, pairs_from, PatternTables, with_pattern, progress, PatternsRead, patterns_from, patterns_read}
 use Rattle.heads.proofs.ReadInRange.{task_fits_lem, two_fits, heading_fits_lem}
 use Rattle.heads.proofs.ReadSteps.{tasks_went, pairs_went, patterns_went, patterns_rest}
 use Rattle.heads.proofs.ReadKeeps.{pairs_kept, pairs_row, PatternsKept, patterns_kept}
@@ -52,7 +51,7 @@ tasks_more u i t l f d = record { row = task_row u i t 256 d.row; fits = below_m
     there : (j : ℕ) → j < i → attributes_fit (task_at v j) ≡ true
     there j h = ap attributes_fit (task_below u v i j (task_kept u i t v same) h) ∙ d.fits j h
 
-pub tasks_done : (s : List ℕ) (k i at : ℕ) (u : List ℕ) (q : ℕ) → i + k ≤ 64 → TasksDone u i → (tasks_from s k i at u).outcome ≡ outcome.At q → TasksDone (tasks_from s k i at u).table (i + k)
+pub tasks_done : (s : List ℕ) (k i at : ℕ) (u : List ℕ) (q : ℕ) → i + k ≤ 64 → TasksDone u i → (tasks_from s k i at u).outcome ≡ Ok q → TasksDone (tasks_from s k i at u).table (i + k)
 unfolding tasks_from
 tasks_done s zero i at u q l d e = let z : i + 0 ≡ i = omega arith in rw z d
 tasks_done s (suc k) i at u q l d e =
@@ -66,7 +65,7 @@ tasks_done s (suc k) i at u q l d e =
 pub no_tasks_lem : TasksDone no_attributes 0
 no_tasks_lem = record { row = row_none 256; fits = λ j l. absurd (omega arith) }
 
-pub tasks_all : (s : List ℕ) (n at : ℕ) (v : List ℕ) (q : ℕ) → n ≤ 64 → tasks_from s n 0 at no_attributes ≡ tasks_read (outcome.At q) v → TasksDone v n
+pub tasks_all : (s : List ℕ) (n at : ℕ) (v : List ℕ) (q : ℕ) → n ≤ 64 → tasks_from s n 0 at no_attributes ≡ tasks_read (Ok q) v → TasksDone v n
 tasks_all s n at v q l e =
     let d = tasks_done s n 0 at no_attributes q (omega arith) no_tasks_lem (ap (λ (r : TasksRead). r.outcome) e) in
     let z : 0 + n ≡ n = omega arith in
@@ -76,7 +75,7 @@ first_fits : (t : Task) → attributes_fit t ≡ true → holds periods t.period
 unfolding attributes_fit
 first_fits t e = (both {a = holds periods t.period} e).0
 
-pub periods_fit_lem : (s : List ℕ) (n at : ℕ) (v : List ℕ) (q : ℕ) {r : Outcome} → n ≤ 64 → tasks_read r v ≡ tasks_from s n 0 at no_attributes → r ≡ outcome.At q → periods_fit (tasks_of n v) ≡ true
+pub periods_fit_lem : (s : List ℕ) (n at : ℕ) (v : List ℕ) (q : ℕ) {r : Outcome} → n ≤ 64 → tasks_read r v ≡ tasks_from s n 0 at no_attributes → r ≡ Ok q → periods_fit (tasks_of n v) ≡ true
 unfolding periods_fit
 periods_fit_lem s n at v q l e o =
     let d : TasksDone v n = tasks_all s n at v q l (sym e ∙ ap (λ (x : Outcome). tasks_read x v) o) in
@@ -89,7 +88,7 @@ module _ (s : List ℕ) (la lb start n : ℕ) (v : List ℕ) where
 
   pub pairs_done : (k d j at : ℕ) (low : Key) (u : List ℕ) (q : ℕ) → d + k ≡ n → j ≡ start + d → start + n ≤ 1024 → length u ≡ 2048
       → low ≡ pair_key v start d → Passing fits n d
-      → (pairs_from s k at low la lb j u).outcome ≡ outcome.At q → SamePrefix (pairs_from s k at low la lb j u).table v (2 * (start + n)) → all fits n ≡ true
+      → (pairs_from s k at low la lb j u).outcome ≡ Ok q → SamePrefix (pairs_from s k at low la lb j u).table v (2 * (start + n)) → all fits n ≡ true
   unfolding pairs_from
   pairs_done zero d j at low u q z a room long key passing e kept = pass_end fits n d passing (omega arith)
   pairs_done (suc k) d j at low u q z a room long key passing e kept =
@@ -98,7 +97,7 @@ module _ (s : List ℕ) (la lb start n : ℕ) (v : List ℕ) where
       let y : ℕ = w.y in
       let t : List ℕ = put_pair u j x y in
       let r : PairsRead = pairs_from s k w.next (after x y) la lb (j + 1) t in
-      let o : r.outcome ≡ outcome.At q = ap (λ (x : PairsRead). x.outcome) (sym w.rest) ∙ e in
+      let o : r.outcome ≡ Ok q = ap (λ (x : PairsRead). x.outcome) (sym w.rest) ∙ e in
       let g : SamePrefix r.table v (2 * (start + n)) = subst (λ (x : PairsRead). SamePrefix x.table v (2 * (start + n))) w.rest kept in
       let f : SamePrefix t v (2 * (j + 1)) = kept_on t r.table v (2 * (j + 1)) (2 * (start + n)) (omega arith) (pairs_kept s k w.next (after x y) la lb (j + 1) t q o) g in
       let b = pair_there u j x y v f (omega arith) in
@@ -132,14 +131,13 @@ no_key_lem ps start = refl
 module _ (s : List ℕ) (e h : ℕ) (t : Tasks) (w : PatternTables) (n : ℕ) (asked : PatternsAsked t (patterns_in w n) h) where
   pub patterns_done : (k i : ℕ) (done : Progress) (u : PatternTables) (q l : ℕ) → i + k ≡ n
       → Walking e t (patterns_in w n) i done.low done.used done.links → PatternsRow u i done.used
-      → patterns_from s e t h k i done u ≡ patterns_read (linked.At q l) w → PatternsDone e t w n l
+      → patterns_from s e t h k i done u ≡ patterns_read (Ok (q, l)) w → PatternsDone e t w n l
   unfolding patterns_from
   patterns_done zero i done u q l z walk rows g =
       let low : Key = done.low in
       let used : ℕ = done.used in
       let a : i ≡ n = omega arith in
-      let o : linked.At done.at done.links ≡ linked.At q l = ap (λ (x : PatternsRead). x.outcome) g in
-      let b : done.links ≡ l = cc o in
+      let b : done.links ≡ l = ok_second (ap (λ (x : PatternsRead). x.outcome) g) in
       let d : u ≡ w = ap (λ (x : PatternsRead). x.tables) g in
       record {
         last = low;
@@ -158,7 +156,7 @@ module _ (s : List ℕ) (e h : ℕ) (t : Tasks) (w : PatternTables) (n : ℕ) (a
       let v : PatternTables = with_pattern u i x y c f.v in
       let made : ℕ = done.links + links_in c h m.whole in
       let next : Progress = progress f.q (after x y) (used + c) made in
-      let g' : patterns_from s e t h k (i + 1) next v ≡ patterns_read (linked.At q l) w = sym (patterns_rest s e t h i done u k f) ∙ g in
+      let g' : patterns_from s e t h k (i + 1) next v ≡ patterns_read (Ok (q, l)) w = sym (patterns_rest s e t h i done u k f) ∙ g in
       let kept : PatternsKept v w (i + 1) (used + c) =
       subst (λ (r : PatternsRead). PatternsKept v r.tables (i + 1) (used + c)) g'
       (patterns_kept s e t h k (i + 1) next v q l (ap (λ (r : PatternsRead). r.outcome) g')) in
@@ -169,7 +167,7 @@ module _ (s : List ℕ) (e h : ℕ) (t : Tasks) (w : PatternTables) (n : ℕ) (a
       let fit = heading_fits_lem s done.at low t.count used x y c f.p f.is in
       let fit' : heading_fits t.count low (from_task (patterns_in w n) i) (to_task (patterns_in w n) i) (pair_count (patterns_in w n) i) used ≡ true = rw (fx, fy, fc) fit in
       let room : used + c ≤ 1024 = (heading_facts t.count low x y c used fit).room in
-      let o : (pairs_from s c f.p no_key m.first m.second used u.pairs).outcome ≡ outcome.At f.q = ap (λ (r : PairsRead). r.outcome) f.pairs in
+      let o : (pairs_from s c f.p no_key m.first m.second used u.pairs).outcome ≡ Ok f.q = ap (λ (r : PairsRead). r.outcome) f.pairs in
       let held : SamePrefix (pairs_from s c f.p no_key m.first m.second used u.pairs).table w.pairs (2 * (used + c)) =
       subst (λ (r : PairsRead). SamePrefix r.table w.pairs (2 * (used + c))) (sym f.pairs) kept.pairs in
       let pairs : all (pair_fits w.pairs used m.first m.second) c ≡ true =

@@ -3,6 +3,7 @@ use mathlib.Core.Path.{◌≡◌, sym, ap, ◌∙◌, subst}
 use mathlib.Core.List.{List}
 use Prim.Native.Nat.{ℕ, zero, suc, ◌+◌, ◌*◌}
 use native.Mathlib.Omega.{arith}
+use Rattle.std.specs.Prelude.{Ok}
 use Rattle.vocabulary.specs.Keep.{SamePrefix, Row}
 use Rattle.vocabulary.proofs.Keep.{kept_self, kept_on}
 use Rattle.kinds.specs.declared.Key.{Key}
@@ -10,14 +11,12 @@ use Rattle.kinds.specs.Limits.{no_key, after}
 use Rattle.kinds.specs.Tasks.{Tasks, put_pair}
 use Rattle.kinds.specs.Links.{links_in}
 use Rattle.kinds.proofs.Rows.{heading_kept, pair_kept, pair_row}
-use Rattle.heads.specs.declared.Outcome.TheVariants as outcome
 use Rattle.heads.specs.declared.Progress.{Progress}
-use Rattle.heads.specs.declared.Linked.TheVariants as linked
 use Rattle.heads.specs.Tables.{PairsRead, pairs_from, PatternTables, with_pattern, progress, PatternsRead, patterns_from}
 use Rattle.heads.proofs.ReadSteps.{pairs_went, patterns_went, patterns_rest}
 
 -- ---- pairs
-pub pairs_kept : (s : List ℕ) (k at : ℕ) (low : Key) (la lb j : ℕ) (u : List ℕ) (q : ℕ) → (pairs_from s k at low la lb j u).outcome ≡ outcome.At q → SamePrefix u (pairs_from s k at low la lb j u).table (2 * j)
+pub pairs_kept : (s : List ℕ) (k at : ℕ) (low : Key) (la lb j : ℕ) (u : List ℕ) (q : ℕ) → (pairs_from s k at low la lb j u).outcome ≡ Ok q → SamePrefix u (pairs_from s k at low la lb j u).table (2 * j)
 unfolding pairs_from
 pairs_kept s zero at low la lb j u q e = kept_self u (2 * j)
 pairs_kept s (suc k) at low la lb j u q e =
@@ -28,7 +27,7 @@ pairs_kept s (suc k) at low la lb j u q e =
     subst (λ (x : PairsRead). SamePrefix u x.table (2 * j)) (sym w.rest) (pair_kept u j w.x w.y r.table p)
 
 -- behind what was read the table holds 0
-pub pairs_row : (s : List ℕ) (k at : ℕ) (low : Key) (la lb j : ℕ) (u : List ℕ) (q : ℕ) → Row u 2048 (2 * j) → (pairs_from s k at low la lb j u).outcome ≡ outcome.At q → Row (pairs_from s k at low la lb j u).table 2048 (2 * (j + k))
+pub pairs_row : (s : List ℕ) (k at : ℕ) (low : Key) (la lb j : ℕ) (u : List ℕ) (q : ℕ) → Row u 2048 (2 * j) → (pairs_from s k at low la lb j u).outcome ≡ Ok q → Row (pairs_from s k at low la lb j u).table 2048 (2 * (j + k))
 unfolding pairs_from
 pairs_row s zero at low la lb j u q r e = let z : j + 0 ≡ j = omega arith in rw z r
 pairs_row s (suc k) at low la lb j u q r e =
@@ -44,7 +43,7 @@ pub record PatternsKept (u w : PatternTables) (i used : ℕ) : Type 0 where
   pub pairs : SamePrefix u.pairs w.pairs (2 * used)
 
 pub patterns_kept : (s : List ℕ) (e : ℕ) (t : Tasks) (h k i : ℕ) (done : Progress) (u : PatternTables) (q l : ℕ)
-    → (patterns_from s e t h k i done u).outcome ≡ linked.At q l → PatternsKept u (patterns_from s e t h k i done u).tables i done.used
+    → (patterns_from s e t h k i done u).outcome ≡ Ok (q, l) → PatternsKept u (patterns_from s e t h k i done u).tables i done.used
 unfolding patterns_from
 patterns_kept s e t h zero i done u q l g = record { headings = kept_self u.headings (3 * i); pairs = kept_self u.pairs (2 * done.used) }
 patterns_kept s e t h (suc k) i done u q l g =

@@ -1,5 +1,5 @@
 -- Rule R5.3: the head of a plan file, from its edition to its last pair.
-use Rattle.std.specs.Prelude.{List, ℕ, leb}
+use Rattle.std.specs.Prelude.{List, ℕ, leb, Result, Ok, Err}
 use Rattle.vocabulary.specs.Test.{pick}
 use Rattle.kinds.specs.declared.TaskSet.{TaskSet}
 use Rattle.kinds.specs.Build.{in_tables}
@@ -9,35 +9,41 @@ use Rattle.kinds.specs.Tasks.{Tasks, tasks_of}
 use Rattle.kinds.specs.declared.Counts.{Counts}
 use Rattle.kinds.specs.declared.Cycle.{Cycle}
 use Rattle.kinds.specs.Cycle.{cycle_is, cycle_fits}
+use Rattle.numbers.specs.declared.Refusal.{Refusal}
 use Rattle.numbers.specs.declared.Refusal.TheVariants as refusal
-use Rattle.heads.specs.declared.Outcome.{Outcome}
-use Rattle.heads.specs.declared.Outcome.TheVariants as outcome
 use Rattle.heads.specs.declared.Opening.{Opening}
-use Rattle.heads.specs.declared.Opening.TheVariants as opening
-use Rattle.heads.specs.declared.Middle.{Middle}
-use Rattle.heads.specs.declared.Middle.TheVariants as middle
 use Rattle.heads.specs.declared.Progress.{Progress}
-use Rattle.heads.specs.declared.Linked.{Linked}
-use Rattle.heads.specs.declared.Linked.TheVariants as linked
-use Rattle.heads.specs.declared.Head.{Head}
-use Rattle.heads.specs.declared.Head.TheVariants as head
 use Rattle.numbers.specs.Numbers.{got_at, and_then}
-use Rattle.heads.specs.Tables.{TasksRead, PatternTables, PatternRead, PatternsRead, tasks_from, progress, pattern_from, patterns_from}
+use Rattle.heads.specs.Tables.{Outcome, Linked, TasksRead, PatternTables, PatternRead, PatternsRead, tasks_from, progress, pattern_from, patterns_from}
+
+-- ---- what each part answers: what it read with the place after it, or why the file is refused
+abbrev pub OpeningRead : Type 0
+OpeningRead = Result (Opening × ℕ) Refusal
+
+-- the cycle, the pattern count, and the place after it
+abbrev pub Middle : Type 0
+Middle = Result (Cycle × ℕ × ℕ) Refusal
+
+abbrev pub Head : Type 0
+Head = Result (Counts × ℕ) Refusal
 
 -- edition, task count and m: 3 and 4 (rules R6.3, R6.4)
-unfoldable pub opening_of : List ℕ → Opening
+abbrev pub opening : ℕ → ℕ → ℕ → Opening
+opening e n m = record { edition = e; tasks = n; processors = m }
+
+unfoldable pub opening_of : List ℕ → OpeningRead
 opening_of s =
-    and_then opening.Refused (got_at s 0 editions refusal.UnknownEdition) λ e p₁.
-    and_then opening.Refused (got_at s p₁ task_counts (refusal.OutOfLimits p₁)) λ n p₂.
-    and_then opening.Refused (got_at s p₂ processor_counts (refusal.OutOfLimits p₂)) λ m p₃.
-    opening.Of e n m p₃
+    and_then (got_at s 0 editions refusal.UnknownEdition) λ e p₁.
+    and_then (got_at s p₁ task_counts (refusal.OutOfLimits p₁)) λ n p₂.
+    and_then (got_at s p₂ processor_counts (refusal.OutOfLimits p₂)) λ m p₃.
+    Ok (opening e n m, p₃)
 
 -- after the tasks t rules R6.5 and R6.12: 5 before anything behind; then the pattern count
 unfoldable pub middle_from : List ℕ → ℕ → Tasks → Middle
 middle_from s at t =
     pick (cycle_fits t)
-    (and_then middle.Refused (got_at s at pattern_counts (refusal.OutOfLimits at)) λ k p. middle.Of (cycle_is t) k p)
-    (middle.Refused (refusal.TooLong at))
+    (and_then (got_at s at pattern_counts (refusal.OutOfLimits at)) λ k p. Ok (cycle_is t, k, p))
+    (Err (refusal.TooLong at))
 
 -- ---- the head: from the edition to the last pair, into lent tables
 pub record HeadRead : Type 0 where
@@ -48,22 +54,22 @@ pub record HeadRead : Type 0 where
 abbrev pub head_read : Head → List ℕ → PatternTables → HeadRead
 head_read o t v = record { outcome = o; tasks = t; patterns = v }
 
-unfoldable pub on_opening : Opening → List ℕ → PatternTables → (ℕ → ℕ → ℕ → ℕ → HeadRead) → HeadRead
-on_opening (opening.Of e n m p) t v k = k e n m p
-on_opening (opening.Refused r) t v k = head_read (head.Refused r) t v
+unfoldable pub on_opening : OpeningRead → List ℕ → PatternTables → (ℕ → ℕ → ℕ → ℕ → HeadRead) → HeadRead
+on_opening (Ok (o, p)) t v k = k o.edition o.tasks o.processors p
+on_opening (Err r) t v k = head_read (Err r) t v
 
 unfoldable pub on_tasks : Outcome → List ℕ → PatternTables → (ℕ → HeadRead) → HeadRead
-on_tasks (outcome.At p) t v k = k p
-on_tasks (outcome.Refused r) t v k = head_read (head.Refused r) t v
+on_tasks (Ok p) t v k = k p
+on_tasks (Err r) t v k = head_read (Err r) t v
 
 unfoldable pub on_middle : Middle → List ℕ → PatternTables → (Cycle → ℕ → ℕ → HeadRead) → HeadRead
-on_middle (middle.Of c k p) t v f = f c k p
-on_middle (middle.Refused r) t v f = head_read (head.Refused r) t v
+on_middle (Ok (c, k, p)) t v f = f c k p
+on_middle (Err r) t v f = head_read (Err r) t v
 
 -- Rules R6.7 and R6.12: after the last pattern 9, for too many links, before anything behind
 unfoldable pub on_patterns : Linked → List ℕ → PatternTables → Counts → HeadRead
-on_patterns (linked.At p l) t v f = head_read (pick (leb l most_links) (head.Of f p) (head.Refused (refusal.TooManyLinks p))) t v
-on_patterns (linked.Refused r) t v f = head_read (head.Refused r) t v
+on_patterns (Ok (p, l)) t v f = head_read (pick (leb l most_links) (Ok (f, p)) (Err (refusal.TooManyLinks p))) t v
+on_patterns (Err r) t v f = head_read (Err r) t v
 
 -- the numbers of the head: what stands before the tasks and after them, and the cycle
 abbrev pub counts_are : ℕ → ℕ → ℕ → ℕ → Cycle → Counts

@@ -5,13 +5,13 @@ ghost use Rattle.std.specs.Prelude.{◌≡◌, true, ◌+◌, ◌*◌, ◌<◌, 
 ghost use Rattle.kinds.specs.Limits.{no_key};
 ghost use Rattle.kinds.specs.Cycle.{periods_fit};
 ghost use Rattle.kinds.specs.Tasks.{tasks_of, put_task, put_heading, put_pair};
-ghost use Rattle.heads.specs.Tables.{times_from, task_from, tasks_from, tasks_read, no_attributes, two_at, pairs_from, pairs_read, count_from, heading_at};
+ghost use Rattle.heads.specs.Tables.{task_from, tasks_from, tasks_read, no_attributes, two_at, pairs_from, pairs_read, count_from, heading_at};
 ghost use Rattle.heads.specs.Tables.{pattern_tables, pattern_read, patterns_read};
 ghost use Rattle.heads.specs.Heads.{pattern_after, patterns_after, opening_of, middle_from, head_read, head_from};
 ghost use Rattle.heads.specs.LoopSteps.{closing};
 
 use kinds::{Attributes, Counts, Cycle, Edition, Headings, Key, Pairs, Pattern, Task, TaskSet};
-use numbers::{Got, Refusal};
+use numbers::Refusal;
 
 // The limits of counts, as wide as the numbers of a file.
 const FEWEST_TASKS: u32 = TaskSet::FEWEST_TASKS as u32;
@@ -19,33 +19,6 @@ const FEWEST_TASKS: u32 = TaskSet::FEWEST_TASKS as u32;
 const TASK_LIMIT: u32 = TaskSet::TASK_LIMIT as u32;
 
 const PATTERN_LIMIT: u32 = TaskSet::PATTERN_LIMIT as u32;
-
-#[derive(Clone, Copy)]
-pub enum TaskRead {
-    Task(Task, usize),
-    Refused(Refusal),
-}
-
-// Two numbers in order, and the place after them.
-#[derive(Clone, Copy)]
-pub enum Two {
-    Both(u32, u32, usize),
-    Refused(Refusal),
-}
-
-// What stands before a pattern's pairs: its two tasks, its pair count and the place after it.
-#[derive(Clone, Copy)]
-pub enum Heading {
-    Of(u32, u32, u32, usize),
-    Refused(Refusal),
-}
-
-// Where reading went on to.
-#[derive(Clone, Copy)]
-pub enum Outcome {
-    At(usize),
-    Refused(Refusal),
-}
 
 // How far the patterns are read: the place after them, the lowest two tasks that may come next, and the pairs and the links so far.
 #[derive(Clone, Copy)]
@@ -56,91 +29,41 @@ pub struct Progress {
     pub links: u64,
 }
 
-// How far the patterns are read after one more.
+// What a file begins with.
 #[derive(Clone, Copy)]
-pub enum Reached {
-    To(Progress),
-    Refused(Refusal),
+pub struct Opening {
+    pub edition: u32,
+    pub tasks: u32,
+    pub processors: u32,
 }
 
-// Where the patterns end, and how many links they make.
-#[derive(Clone, Copy)]
-pub enum Linked {
-    At(usize, u64),
-    Refused(Refusal),
-}
-
-// Edition, task count and processors, and the place after them.
-#[derive(Clone, Copy)]
-pub enum Opening {
-    Of(u32, u32, u32, usize),
-    Refused(Refusal),
-}
-
-// What stands between the tasks and the patterns: the cycle, the pattern count and the place after it.
-#[derive(Clone, Copy)]
-pub enum Middle {
-    Of(Cycle, u32, usize),
-    Refused(Refusal),
-}
-
-#[derive(Clone, Copy)]
-pub enum Head {
-    Of(Counts, usize),
-    Refused(Refusal),
-}
-
-// O and D of a task with this T and this C.
-fn read_times(file: &[u8], at: usize, t: u32, c: u32) -> TaskRead
-    requires { t ≤ 6000 }
-    ensures { result ≡ times_from file.now at t c }
-{
-    match numbers::read_within(file, at, 0, t, Refusal::OutOfLimits(at)) {
-        Got::Refused(r) => TaskRead::Refused(r),
-        Got::Value(o, p1) => match numbers::read_within(
-            file,
-            p1,
-            c,
-            t + 1,
-            Refusal::OutOfLimits(p1),
-        ) {
-            Got::Refused(r) => TaskRead::Refused(r),
-            Got::Value(d, p2) => TaskRead::Task(
-                Task {
-                    period: t,
-                    running: c,
-                    offset: o,
-                    deadline: d,
-                },
-                p2,
-            ),
-        },
-    }
-}
-
-// One task's T, C, O and D.
-fn read_task(file: &[u8], at: usize) -> TaskRead
+// One task's T, C, O and D, and the place after them.
+fn read_task(file: &[u8], at: usize) -> Result<(Task, usize), Refusal>
     ensures { result ≡ task_from file.now at }
 {
-    match numbers::read_within(
+    let (t, p1) = numbers::read_within(
         file,
         at,
         Task::SHORTEST_PERIOD,
         Task::PERIOD_LIMIT,
         Refusal::OutOfLimits(at),
-    ) {
-        Got::Refused(r) => TaskRead::Refused(r),
-        Got::Value(t, p1) => match numbers::read_within(
-            file,
-            p1,
-            Task::LEAST_RUNNING,
-            t + 1,
-            Refusal::OutOfLimits(p1),
-        ) {
-            Got::Refused(r) => TaskRead::Refused(r),
-            Got::Value(c, p2) => read_times(file, p2, t, c),
-        },
-    }
+    )?;
+    let (c, p2) = numbers::read_within(
+        file,
+        p1,
+        Task::LEAST_RUNNING,
+        t + 1,
+        Refusal::OutOfLimits(p1),
+    )?;
+    let (o, p3) = numbers::read_within(file, p2, 0, t, Refusal::OutOfLimits(p2))?;
+    let (d, next) = numbers::read_within(file, p3, c, t + 1, Refusal::OutOfLimits(p3))?;
+    let task = Task {
+        period: t,
+        running: c,
+        offset: o,
+        deadline: d,
+    };
+    Ok((task, next))
 }
 
 // A task, a heading or a pair, into its table.
@@ -175,44 +98,43 @@ fn put_pair(pairs: &mut Pairs, j: usize, a: u32, b: u32)
 }
 
 // The first n tasks, into the table that is lent.
-fn read_tasks(file: &[u8], start: usize, n: usize, attributes: &mut Attributes) -> Outcome
+fn read_tasks(
+    file: &[u8],
+    start: usize,
+    n: usize,
+    attributes: &mut Attributes,
+) -> Result<usize, Refusal>
     requires { n ≤ 64 }
     ensures { tasks_read result attributes.new ≡ tasks_from file.now n 0 start attributes.old }
 {
     let mut at = start;
-    let mut i = 0;
-    while i < n {
-        match read_task(file, at) {
-            TaskRead::Refused(r) => {
-                return Outcome::Refused(r);
-            }
-            TaskRead::Task(t, next) => {
-                put_task(attributes, i, t);
-                at = next;
-            }
-        }
-        i += 1;
+    for i in 0..n {
+        let (t, next) = read_task(file, at)?;
+        put_task(attributes, i, t);
+        at = next;
     }
-    Outcome::At(at)
+    Ok(at)
 }
 
-// Two numbers, each below its limit, that come after the key's in order.
-fn read_two(file: &[u8], at: usize, low: Key, limit_a: u32, limit_b: u32) -> Two
+// Two numbers, each below its limit, that come after the key's in order, and the place after them.
+fn read_two(
+    file: &[u8],
+    at: usize,
+    low: Key,
+    limit_a: u32,
+    limit_b: u32,
+) -> Result<(u32, u32, usize), Refusal>
     ensures { result ≡ two_at file.now at low limit_a limit_b }
 {
-    match numbers::read_within(file, at, low.first, limit_a, Refusal::Disordered(at)) {
-        Got::Refused(r) => Two::Refused(r),
-        Got::Value(x, p1) => match numbers::read_within(
-            file,
-            p1,
-            kinds::low_second(low, x),
-            limit_b,
-            Refusal::Disordered(p1),
-        ) {
-            Got::Refused(r) => Two::Refused(r),
-            Got::Value(y, p2) => Two::Both(x, y, p2),
-        },
-    }
+    let (x, p1) = numbers::read_within(file, at, low.first, limit_a, Refusal::Disordered(at))?;
+    let (y, p2) = numbers::read_within(
+        file,
+        p1,
+        kinds::low_second(low, x),
+        limit_b,
+        Refusal::Disordered(p1),
+    )?;
+    Ok((x, y, p2))
 }
 
 // The n pairs of a pattern, into the table that is lent, after the pairs that are used.
@@ -224,7 +146,7 @@ fn read_pairs(
     limit_b: u32,
     used: usize,
     pairs: &mut Pairs,
-) -> Outcome
+) -> Result<usize, Refusal>
     requires { (used + n ≤ 1024) × (limit_a ≤ 6000) × (limit_b ≤ 12000) }
     ensures { pairs_read result pairs.new ≡ pairs_from file.now n start no_key limit_a limit_b used pairs.old }
 {
@@ -234,120 +156,121 @@ fn read_pairs(
         first: 0,
         second: 0,
     };
-    let mut j = used;
-    while j < end {
-        match read_two(file, at, low, limit_a, limit_b) {
-            Two::Refused(r) => {
-                return Outcome::Refused(r);
-            }
-            Two::Both(a, b, next) => {
-                put_pair(pairs, j, a, b);
-                low = Key {
-                    first: a,
-                    second: b + 1,
-                };
-                at = next;
-            }
-        }
-        j += 1;
+    for j in used..end {
+        let (a, b, next) = read_two(file, at, low, limit_a, limit_b)?;
+        put_pair(pairs, j, a, b);
+        low = Key {
+            first: a,
+            second: b + 1,
+        };
+        at = next;
     }
-    Outcome::At(at)
+    Ok(at)
 }
 
-// The pair count of a pattern from x to y.
-fn read_count(file: &[u8], at: usize, x: u32, y: u32, used: usize) -> Heading
+// The pair count of a pattern from x to y, and the place after it.
+fn read_count(
+    file: &[u8],
+    at: usize,
+    x: u32,
+    y: u32,
+    used: usize,
+) -> Result<(Pattern, usize), Refusal>
     requires { used ≤ 1024 }
     ensures { result ≡ count_from file.now at x y used }
 {
-    match numbers::read_within(
+    let (c, next) = numbers::read_within(
         file,
         at,
         Pattern::FEWEST_PAIRS,
         2097152,
         Refusal::Disordered(at),
-    ) {
-        Got::Refused(r) => Heading::Refused(r),
-        Got::Value(c, next) => {
-            let n = c as usize;
-            if used + n <= TaskSet::MOST_PAIRS {
-                return Heading::Of(x, y, c, next);
-            }
-            Heading::Refused(Refusal::OutOfLimits(at))
-        }
+    )?;
+    let n = c as usize;
+    if used + n <= TaskSet::MOST_PAIRS {
+        let pattern = Pattern {
+            from: x,
+            to: y,
+            pairs: c,
+        };
+        return Ok((pattern, next));
     }
+    Err(Refusal::OutOfLimits(at))
 }
 
-// A pattern's two tasks, which are not one, and its pair count.
-fn read_heading(file: &[u8], at: usize, low: Key, tasks: u32, used: usize) -> Heading
+// A pattern's two tasks, which are not one, and its pair count, and the place after them.
+fn read_heading(
+    file: &[u8],
+    at: usize,
+    low: Key,
+    tasks: u32,
+    used: usize,
+) -> Result<(Pattern, usize), Refusal>
     requires { used ≤ 1024 }
     ensures { result ≡ heading_at file.now at low tasks used }
 {
-    match numbers::read_within(file, at, low.first, tasks, Refusal::Disordered(at)) {
-        Got::Refused(r) => Heading::Refused(r),
-        Got::Value(x, p1) => match numbers::read_within(
-            file,
-            p1,
-            kinds::low_second(low, x),
-            tasks,
-            Refusal::Disordered(p1),
-        ) {
-            Got::Refused(r) => Heading::Refused(r),
-            Got::Value(y, p2) => {
-                if x == y {
-                    return Heading::Refused(Refusal::Disordered(p1));
-                }
-                read_count(file, p2, x, y, used)
-            }
-        },
+    let (x, p1) = numbers::read_within(file, at, low.first, tasks, Refusal::Disordered(at))?;
+    let (y, p2) = numbers::read_within(
+        file,
+        p1,
+        kinds::low_second(low, x),
+        tasks,
+        Refusal::Disordered(p1),
+    )?;
+    if x == y {
+        return Err(Refusal::Disordered(p1));
     }
+    read_count(file, p2, x, y, used)
 }
 
-// Edition, task count and processors.
-fn read_opening(file: &[u8]) -> Opening
+// Edition, task count and processors, and the place after them.
+fn read_opening(file: &[u8]) -> Result<(Opening, usize), Refusal>
     ensures { result ≡ opening_of file.now }
 {
-    match numbers::read_within(
+    let (e, p1) = numbers::read_within(
         file,
         0,
         Edition::FIRST,
         Edition::LIMIT,
         Refusal::UnknownEdition,
-    ) {
-        Got::Refused(r) => Opening::Refused(r),
-        Got::Value(e, p1) => match numbers::read_within(
-            file,
-            p1,
-            FEWEST_TASKS,
-            TASK_LIMIT,
-            Refusal::OutOfLimits(p1),
-        ) {
-            Got::Refused(r) => Opening::Refused(r),
-            Got::Value(n, p2) => match numbers::read_within(
-                file,
-                p2,
-                TaskSet::FEWEST_PROCESSORS,
-                TaskSet::PROCESSOR_LIMIT,
-                Refusal::OutOfLimits(p2),
-            ) {
-                Got::Refused(r) => Opening::Refused(r),
-                Got::Value(m, p3) => Opening::Of(e, n, m, p3),
-            },
-        },
-    }
+    )?;
+    let (n, p2) = numbers::read_within(
+        file,
+        p1,
+        FEWEST_TASKS,
+        TASK_LIMIT,
+        Refusal::OutOfLimits(p1),
+    )?;
+    let (m, p3) = numbers::read_within(
+        file,
+        p2,
+        TaskSet::FEWEST_PROCESSORS,
+        TaskSet::PROCESSOR_LIMIT,
+        Refusal::OutOfLimits(p2),
+    )?;
+    let opening = Opening {
+        edition: e,
+        tasks: n,
+        processors: m,
+    };
+    Ok((opening, p3))
 }
 
-// The cycle of the n tasks before this place, and the pattern count.
-fn read_middle(file: &[u8], at: usize, n: usize, attributes: &Attributes) -> Middle
+// The cycle of the n tasks before this place, the pattern count, and the place after it.
+fn read_middle(
+    file: &[u8],
+    at: usize,
+    n: usize,
+    attributes: &Attributes,
+) -> Result<(Cycle, u32, usize), Refusal>
     requires { periods_fit (tasks_of n attributes.now) ≡ true }
     ensures { result ≡ middle_from file.now at (tasks_of n attributes.now) }
 {
     let Some(cycle) = kinds::cycle_of(attributes, n) else {
-        return Middle::Refused(Refusal::TooLong(at));
+        return Err(Refusal::TooLong(at));
     };
-    match numbers::read_within(file, at, 0, PATTERN_LIMIT, Refusal::OutOfLimits(at)) {
-        Got::Refused(r) => Middle::Refused(r),
-        Got::Value(k, p) => Middle::Of(cycle, k, p),
-    }
+    let (k, p) = numbers::read_within(file, at, 0, PATTERN_LIMIT, Refusal::OutOfLimits(at))?;
+    Ok((cycle, k, p))
 }
 
 // Pattern i with its pairs, into the two tables that are lent for patterns, after what is done.
@@ -359,38 +282,33 @@ fn read_pattern(
     attributes: &Attributes,
     headings: &mut Headings,
     pairs: &mut Pairs,
-) -> Reached
+) -> Result<Progress, Refusal>
     requires { (i < 64) × (f.tasks ≤ 64) × (f.ticks ≤ 6000) × (done.used ≤ 1024) × (done.links ≤ 6144000 * i) }
     ensures { pattern_read result (pattern_tables headings.new pairs.new)
         ≡ pattern_after file.now done i f attributes.now (pattern_tables headings.old pairs.old) }
 {
-    match read_heading(file, done.at, done.low, f.tasks as u32, done.used) {
-        Heading::Refused(r) => Reached::Refused(r),
-        Heading::Of(x, y, c, p) => {
-            let m = kinds::spans_of(
-                f.edition,
-                attributes[TaskSet::OF_TASK * (x as usize)],
-                attributes[TaskSet::OF_TASK * (y as usize)],
-            );
-            let k = c as usize;
-            put_heading(headings, i, x, y, c);
-            match read_pairs(file, p, k, m.first, m.second, done.used, pairs) {
-                Outcome::Refused(r) => Reached::Refused(r),
-                Outcome::At(q) => Reached::To(Progress {
-                    at: q,
-                    low: Key {
-                        first: x,
-                        second: y + 1,
-                    },
-                    used: done.used + k,
-                    links: done.links + kinds::links_in(c, f.ticks, m.whole),
-                }),
-            }
-        }
-    }
+    let (g, p) = read_heading(file, done.at, done.low, f.tasks as u32, done.used)?;
+    let m = kinds::spans_of(
+        f.edition,
+        attributes[TaskSet::OF_TASK * (g.from as usize)],
+        attributes[TaskSet::OF_TASK * (g.to as usize)],
+    );
+    let k = g.pairs as usize;
+    put_heading(headings, i, g.from, g.to, g.pairs);
+    let q = read_pairs(file, p, k, m.first, m.second, done.used, pairs)?;
+    let low = Key {
+        first: g.from,
+        second: g.to + 1,
+    };
+    Ok(Progress {
+        at: q,
+        low,
+        used: done.used + k,
+        links: done.links + kinds::links_in(g.pairs, f.ticks, m.whole),
+    })
 }
 
-// The n patterns with their pairs, into the two tables that are lent for them.
+// The n patterns with their pairs, into the two tables that are lent for them: where they end, and how many links they make.
 fn read_patterns(
     file: &[u8],
     start: usize,
@@ -398,7 +316,7 @@ fn read_patterns(
     attributes: &Attributes,
     headings: &mut Headings,
     pairs: &mut Pairs,
-) -> Linked
+) -> Result<(usize, u64), Refusal>
     requires { (f.tasks ≤ 64) × (f.patterns ≤ 64) × (f.ticks ≤ 6000) }
     ensures { patterns_read result (pattern_tables headings.new pairs.new)
         ≡ patterns_after file.now start f attributes.now (pattern_tables headings.old pairs.old) }
@@ -412,70 +330,46 @@ fn read_patterns(
         used: 0,
         links: 0,
     };
-    let mut i = 0;
-    while i < f.patterns {
-        match read_pattern(file, done, i, f, attributes, headings, pairs) {
-            Reached::Refused(r) => {
-                return Linked::Refused(r);
-            }
-            Reached::To(next) => {
-                done = next;
-            }
-        }
-        i += 1;
+    for i in 0..f.patterns {
+        done = read_pattern(file, done, i, f, attributes, headings, pairs)?;
     }
-    Linked::At(done.at, done.links)
+    Ok((done.at, done.links))
 }
 
-// What the head answers, after its patterns.
-fn close_head(linked: Linked, f: Counts) -> Head
-    ensures { result ≡ closing linked f }
+// What the head answers, where its patterns end.
+fn close_head(p: usize, links: u64, f: Counts) -> Result<(Counts, usize), Refusal>
+    ensures { result ≡ closing p links f }
 {
-    match linked {
-        Linked::Refused(r) => Head::Refused(r),
-        Linked::At(p, links) => {
-            if TaskSet::MOST_LINKS < links {
-                return Head::Refused(Refusal::TooManyLinks(p));
-            }
-            Head::Of(f, p)
-        }
+    if TaskSet::MOST_LINKS < links {
+        return Err(Refusal::TooManyLinks(p));
     }
+    Ok((f, p))
 }
 
-// The head of a file, from the edition to the last pair, into the tables that are lent, for a caller that puts no set together. The attributes are
-// cleared first: a table of this size is all that the cycle asks of its caller.
+// The head of a file, from the edition to the last pair, into the tables that are lent, for a caller that puts no set together: its numbers, and the
+// place after it. The attributes are cleared first: a table of this size is all that the cycle asks of its caller.
 pub fn read_head(
     file: &[u8],
     attributes: &mut Attributes,
     headings: &mut Headings,
     pairs: &mut Pairs,
-) -> Head
+) -> Result<(Counts, usize), Refusal>
     ensures { head_read result attributes.new (pattern_tables headings.new pairs.new)
         ≡ head_from file.now no_attributes (pattern_tables headings.old pairs.old) }
 {
     *attributes = [0u32; 256];
-    match read_opening(file) {
-        Opening::Refused(r) => Head::Refused(r),
-        Opening::Of(e, n, m, p0) => {
-            let tasks = n as usize;
-            match read_tasks(file, p0, tasks, attributes) {
-                Outcome::Refused(r) => Head::Refused(r),
-                Outcome::At(p1) => match read_middle(file, p1, tasks, attributes) {
-                    Middle::Refused(r) => Head::Refused(r),
-                    Middle::Of(c, k, p2) => {
-                        let f = Counts {
-                            edition: e,
-                            processors: m,
-                            tasks,
-                            patterns: k as usize,
-                            ticks: c.ticks,
-                            jobs: c.jobs,
-                        };
-                        let linked = read_patterns(file, p2, f, attributes, headings, pairs);
-                        close_head(linked, f)
-                    }
-                },
-            }
-        }
-    }
+    let (opening, p0) = read_opening(file)?;
+    let tasks = opening.tasks as usize;
+    let p1 = read_tasks(file, p0, tasks, attributes)?;
+    let (c, k, p2) = read_middle(file, p1, tasks, attributes)?;
+    let f = Counts {
+        edition: opening.edition,
+        processors: opening.processors,
+        tasks,
+        patterns: k as usize,
+        ticks: c.ticks,
+        jobs: c.jobs,
+    };
+    let (p, links) = read_patterns(file, p2, f, attributes, headings, pairs)?;
+    close_head(p, links, f)
 }

@@ -1,11 +1,9 @@
 -- Number and evidence of a refusal of the reader, of what stands at a place of a file, and of a number in its range, by docs/RULES.md, section 6.
-use Rattle.std.specs.Prelude.{List, [], ◌∷◌, ℕ}
+use Rattle.std.specs.Prelude.{List, [], ◌∷◌, ℕ, Ok, Err}
 use Rattle.numbers.specs.declared.Refusal.{Refusal}
 use Rattle.numbers.specs.declared.Refusal.TheVariants as refusal
-use Rattle.numbers.specs.declared.Number.{Number}
-use Rattle.numbers.specs.declared.Number.TheVariants as number
-use Rattle.numbers.specs.declared.Got.{Got}
-use Rattle.numbers.specs.declared.Got.TheVariants as got
+use Rattle.numbers.specs.declared.NumberFault.TheVariants as numberFault
+use Rattle.numbers.specs.Numbers.{Number, Got}
 
 -- Rules R6.1 to R6.9: the file ends too early, a number is badly formed, the edition is not known, a number is outside its limits, the cycle is too long,
 -- a pattern or pair is out of range or order, there are too many links, a slot is too high, bytes are left over.
@@ -35,20 +33,20 @@ refusal_evidence (refusal.LeftOver p) = p ∷ []
 
 -- What stands at a place: 0 with the number and the place after it, or 1 or 2 as a reader would refuse it, in a file of that length.
 abbrev pub numeral_number : Number → ℕ
-numeral_number (number.Value v p) = 0
-numeral_number number.Ends = 1
-numeral_number number.Malformed = 2
+numeral_number (Ok (v, p)) = 0
+numeral_number (Err numberFault.Ends) = 1
+numeral_number (Err numberFault.Malformed) = 2
 
 abbrev pub numeral_evidence : Number → (length at : ℕ) → List ℕ
-numeral_evidence (number.Value v p) length at = v ∷ p ∷ []
-numeral_evidence number.Ends length at = length ∷ []
-numeral_evidence number.Malformed length at = at ∷ []
+numeral_evidence (Ok (v, p)) length at = v ∷ p ∷ []
+numeral_evidence (Err numberFault.Ends) length at = length ∷ []
+numeral_evidence (Err numberFault.Malformed) length at = at ∷ []
 
 -- A number in its range: 0 with the number and the place after it, or the refusal's.
 abbrev pub got_number : Got → ℕ
-got_number (got.Value v p) = 0
-got_number (got.Refused r) = refusal_number r
+got_number (Ok (v, p)) = 0
+got_number (Err r) = refusal_number r
 
 abbrev pub got_evidence : Got → List ℕ
-got_evidence (got.Value v p) = v ∷ p ∷ []
-got_evidence (got.Refused r) = refusal_evidence r
+got_evidence (Ok (v, p)) = v ∷ p ∷ []
+got_evidence (Err r) = refusal_evidence r

@@ -1,5 +1,5 @@
 -- Every number below 2,097,152 has one form that is read, and no other number has one.
-use Rattle.std.specs.Prelude.{◌≡◌, Bool, List, [], ◌∷◌, ℕ, zero, suc, ◌+◌, ◌*◌, ◌-◌, ◌/◌, ◌%◌, ◌<◌, ◌≤◌, leb, eqb}
+use Rattle.std.specs.Prelude.{◌≡◌, Bool, List, [], ◌∷◌, ℕ, zero, suc, ◌+◌, ◌*◌, ◌-◌, ◌/◌, ◌%◌, ◌<◌, ◌≤◌, leb, eqb, Ok}
 use Rattle.std.proofs.Math.Path.{refl}
 use Rattle.std.proofs.Common.{sym, ◌∙◌}
 use Rattle.std.proofs.Math.Bool.{true, false}
@@ -10,8 +10,8 @@ use Rattle.std.proofs.Math.ListN.{length, get_or}
 use Rattle.vocabulary.specs.Test.{pick}
 use Rattle.vocabulary.proofs.Test.{took, missed}
 use Rattle.vocabulary.specs.Parts.{PartAt}
-use Rattle.numbers.specs.declared.Number.TheVariants as number
 use Rattle.numbers.specs.Numbers.{number_at, number_bytes}
+use Rattle.numbers.specs.Results.{err_ok, ok_first, ok_second}
 use Rattle.numbers.specs.Bytes.{third_at, second_at, number_is}
 
 -- a list of bytes
@@ -33,13 +33,13 @@ three_bytes v h = rw (le-ltb v 128 (omega arith), le-ltb v 16384 h)
 
 -- ---- a form is read
 module _ (s : List ℕ) (at v : ℕ) where
-  read_one : v < 128 → PartAt s at (v ∷ []) → number_at s at ≡ number.Value v (at + 1)
+  read_one : v < 128 → PartAt s at (v ∷ []) → number_at s at ≡ Ok (v, at + 1)
   read_one l p =
       let z : at + 0 ≡ at = omega arith in
       let a : get_or s at 0 ≡ v = rw z at (p.entry 0 (omega arith)) in
       number_is s at ∙ rw (lt-leb (length s) at (omega (arith, p.within)), a, lt-ltb v 128 l)
 
-  read_two : 128 ≤ v → v < 16384 → PartAt s at ((128 + v % 128) ∷ (v / 128) ∷ []) → number_at s at ≡ number.Value v (at + 2)
+  read_two : 128 ≤ v → v < 16384 → PartAt s at ((128 + v % 128) ∷ (v / 128) ∷ []) → number_at s at ≡ Ok (v, at + 2)
   unfolding second_at
   read_two h l p =
       let z : at + 0 ≡ at = omega arith in
@@ -58,7 +58,7 @@ module _ (s : List ℕ) (at v : ℕ) where
         d,
       )
 
-  read_three : 16384 ≤ v → v < 2097152 → PartAt s at ((128 + v % 128) ∷ (128 + v / 128 % 128) ∷ (v / 16384) ∷ []) → number_at s at ≡ number.Value v (at + 3)
+  read_three : 16384 ≤ v → v < 2097152 → PartAt s at ((128 + v % 128) ∷ (128 + v / 128 % 128) ∷ (v / 16384) ∷ []) → number_at s at ≡ Ok (v, at + 3)
   unfolding second_at third_at
   read_three h l p =
       let z : at + 0 ≡ at = omega arith in
@@ -83,10 +83,10 @@ module _ (s : List ℕ) (at v : ℕ) where
       )
 
   -- ==== The bytes of a number below 2,097,152 are read as that number, wherever they stand.
-  pub form_read : v < 2097152 → PartAt s at (number_bytes v) → number_at s at ≡ number.Value v (at + length (number_bytes v))
+  pub form_read : v < 2097152 → PartAt s at (number_bytes v) → number_at s at ≡ Ok (v, at + length (number_bytes v))
   form_read l p = by (ltb v 128) refl (ltb v 16384) refl
     where
-      by : (a : Bool) → ltb v 128 ≡ a → (b : Bool) → ltb v 16384 ≡ b → number_at s at ≡ number.Value v (at + length (number_bytes v))
+      by : (a : Bool) → ltb v 128 ≡ a → (b : Bool) → ltb v 16384 ≡ b → number_at s at ≡ Ok (v, at + length (number_bytes v))
       by true x b y = let f = one_byte v (ltb-true v 128 x) in rw f (read_one (ltb-true v 128 x) (rw f at p))
       by false x true y =
           let f = two_bytes v (ltb-false v 128 x) (ltb-true v 16384 y) in
@@ -94,12 +94,6 @@ module _ (s : List ℕ) (at v : ℕ) where
       by false x false y = let f = three_bytes v (ltb-false v 16384 y) in rw f (read_three (ltb-false v 16384 y) l (rw f at p))
 
 -- ---- what is read is a form
-no_end : {v q : ℕ} → number.Ends ≡ number.Value v q → ⊥
-no_end e = let z : ◌≡◌ {A = ℕ} 0 1 = cc in omega arith
-
-no_form : {v q : ℕ} → number.Malformed ≡ number.Value v q → ⊥
-no_form e = let z : ◌≡◌ {A = ℕ} 0 1 = cc in omega arith
-
 pub record FormAt (s : List ℕ) (at v next : ℕ) : Type 0 where
   pub low : v < 2097152
   pub bytes : PartAt s at (number_bytes v)
@@ -142,49 +136,49 @@ at_three s at v h l w a b c = let f = three_bytes v h in record { low = l; bytes
 
 module _ (s : List ℕ) (bytes : Bytes s) (at v next : ℕ) where
   by_third : get_or s at 0 < 256 → 128 ≤ get_or s at 0 → at + 1 < length s → 128 ≤ get_or s (at + 1) 0
-      → third_at s at (get_or s at 0 - 128 + 128 * (get_or s (at + 1) 0 - 128)) ≡ number.Value v next → FormAt s at v next
+      → third_at s at (get_or s at 0 - 128 + 128 * (get_or s (at + 1) 0 - 128)) ≡ Ok (v, next) → FormAt s at v next
   unfolding third_at
   by_third l h w k e =
-      let a = missed (leb (length s) (at + 2)) _ _ _ e no_end in
-      let b = missed (eqb (get_or s (at + 2) 0) 0) _ _ _ a.1 no_form in
-      let c = took (ltb (get_or s (at + 2) 0) 128) _ _ _ b.1 no_form in
+      let a = missed (leb (length s) (at + 2)) _ _ _ e err_ok in
+      let b = missed (eqb (get_or s (at + 2) 0) 0) _ _ _ a.1 err_ok in
+      let c = took (ltb (get_or s (at + 2) 0) 128) _ _ _ b.1 err_ok in
       let far : at + 2 < length s = leb-false (length s) (at + 2) a.0 in
       let low : get_or s (at + 2) 0 < 128 = ltb-true (get_or s (at + 2) 0) 128 c.0 in
       let some : get_or s (at + 2) 0 ≡ 0 → ⊥ = eqb-false (get_or s (at + 2) 0) 0 b.0 in
-      let n : at + 3 ≡ next = cc c.1 in
-      let z : get_or s at 0 - 128 + 128 * (get_or s (at + 1) 0 - 128) + 16384 * get_or s (at + 2) 0 ≡ v = cc c.1 in
+      let n : at + 3 ≡ next = ok_second c.1 in
+      let z : get_or s at 0 - 128 + 128 * (get_or s (at + 1) 0 - 128) + 16384 * get_or s (at + 2) 0 ≡ v = ok_first c.1 in
       let m : get_or s (at + 1) 0 < 256 = bytes (at + 1) w in
       rw n at
       (at_three s at v (omega (arith, some)) (omega arith) far (omega arith) (omega arith) (omega arith))
 
-  by_second : get_or s at 0 < 256 → 128 ≤ get_or s at 0 → second_at s at (get_or s at 0 - 128) ≡ number.Value v next → FormAt s at v next
+  by_second : get_or s at 0 < 256 → 128 ≤ get_or s at 0 → second_at s at (get_or s at 0 - 128) ≡ Ok (v, next) → FormAt s at v next
   unfolding second_at
   by_second l h e =
-      let a = missed (leb (length s) (at + 1)) _ _ _ e no_end in
-      let b = missed (eqb (get_or s (at + 1) 0) 0) _ _ _ a.1 no_form in
+      let a = missed (leb (length s) (at + 1)) _ _ _ e err_ok in
+      let b = missed (eqb (get_or s (at + 1) 0) 0) _ _ _ a.1 err_ok in
       by (ltb (get_or s (at + 1) 0) 128) refl (leb-false (length s) (at + 1) a.0) (eqb-false (get_or s (at + 1) 0) 0 b.0) b.1
     where
       by : (x : Bool) → ltb (get_or s (at + 1) 0) 128 ≡ x → at + 1 < length s → (get_or s (at + 1) 0 ≡ 0 → ⊥)
-          → pick x (number.Value (get_or s at 0 - 128 + 128 * get_or s (at + 1) 0) (at + 2))
-          (third_at s at (get_or s at 0 - 128 + 128 * (get_or s (at + 1) 0 - 128))) ≡ number.Value v next → FormAt s at v next
+          → pick x (Ok (get_or s at 0 - 128 + 128 * get_or s (at + 1) 0, at + 2))
+          (third_at s at (get_or s at 0 - 128 + 128 * (get_or s (at + 1) 0 - 128))) ≡ Ok (v, next) → FormAt s at v next
       by true q w some c =
-          let n : at + 2 ≡ next = cc c in
-          let z : get_or s at 0 - 128 + 128 * get_or s (at + 1) 0 ≡ v = cc c in
+          let n : at + 2 ≡ next = ok_second c in
+          let z : get_or s at 0 - 128 + 128 * get_or s (at + 1) 0 ≡ v = ok_first c in
           let low : get_or s (at + 1) 0 < 128 = ltb-true (get_or s (at + 1) 0) 128 q in
           rw n at (at_two s at v (omega (arith, some)) (omega arith) w (omega arith) (omega arith))
       by false q w some c = by_third l h w (ltb-false (get_or s (at + 1) 0) 128 q) c
 
   -- ==== A number that is read from bytes is below 2,097,152, and its bytes stand there.
-  pub read_form : number_at s at ≡ number.Value v next → FormAt s at v next
+  pub read_form : number_at s at ≡ Ok (v, next) → FormAt s at v next
   read_form e =
-      let a = missed (leb (length s) at) _ _ _ (sym (number_is s at) ∙ e) no_end in
+      let a = missed (leb (length s) at) _ _ _ (sym (number_is s at) ∙ e) err_ok in
       by (ltb (get_or s at 0) 128) refl (leb-false (length s) at a.0) a.1
     where
       by : (x : Bool) → ltb (get_or s at 0) 128 ≡ x → at < length s
-          → pick x (number.Value (get_or s at 0) (at + 1)) (second_at s at (get_or s at 0 - 128)) ≡ number.Value v next → FormAt s at v next
+          → pick x (Ok (get_or s at 0, at + 1)) (second_at s at (get_or s at 0 - 128)) ≡ Ok (v, next) → FormAt s at v next
       by true q w c =
-          let n : at + 1 ≡ next = cc c in
-          let z : get_or s at 0 ≡ v = cc c in
+          let n : at + 1 ≡ next = ok_second c in
+          let z : get_or s at 0 ≡ v = ok_first c in
           let low : get_or s at 0 < 128 = ltb-true (get_or s at 0) 128 q in
           rw n at (at_one s at v (omega arith) w z)
       by false q w c = by_second (bytes at w) (ltb-false (get_or s at 0) 128 q) c

@@ -1,4 +1,5 @@
 pub mod Numbers
+pub mod Results
 pub mod Bytes
 pub mod Answers
 pub mod Forms

@@ -20,19 +20,11 @@ pub enum Refusal {
     LeftOver(usize),
 }
 
-// What stands at a place: a number and the place after it; the file ends before or inside it; it has not its shortest form.
+// Why no number stands at a place: the file ends before or inside it; it has not its shortest form.
 #[derive(Clone, Copy)]
-pub enum Number {
-    Value(u32, usize),
+pub enum NumberFault {
     Ends,
     Malformed,
-}
-
-// A number in its range and the place after it.
-#[derive(Clone, Copy)]
-pub enum Got {
-    Value(u32, usize),
-    Refused(Refusal),
 }
 
 // The byte at a place, as a number.
@@ -40,71 +32,77 @@ fn byte(file: &[u8], at: usize) -> u32
     requires { at < length file.now }
     ensures { (result ≡ get_or file.now at 0) × (result < 256) }
 {
-    file[at] as u32
+    u32::from(file[at])
 }
 
 // The number at a place, where the third byte comes next and the first two gave low.
-fn third(file: &[u8], at: usize, low: u32) -> Number
+fn third(file: &[u8], at: usize, low: u32) -> Result<(u32, usize), NumberFault>
     requires { (at < length file.now) × (low < 16384) }
     ensures { result ≡ third_at file.now at low }
 {
     if file.len() <= at + 2 {
-        return Number::Ends;
+        return Err(NumberFault::Ends);
     }
     let c = byte(file, at + 2);
     if c == 0 {
-        return Number::Malformed;
+        return Err(NumberFault::Malformed);
     }
     if c < 128 {
-        return Number::Value(low + 16384 * c, at + 3);
+        return Ok((low + 16384 * c, at + 3));
     }
-    Number::Malformed
+    Err(NumberFault::Malformed)
 }
 
 // The number at a place, where the second byte comes next and the first gave low.
-fn second(file: &[u8], at: usize, low: u32) -> Number
+fn second(file: &[u8], at: usize, low: u32) -> Result<(u32, usize), NumberFault>
     requires { (at < length file.now) × (low < 128) }
     ensures { result ≡ second_at file.now at low }
 {
     if file.len() <= at + 1 {
-        return Number::Ends;
+        return Err(NumberFault::Ends);
     }
     let b = byte(file, at + 1);
     if b == 0 {
-        return Number::Malformed;
+        return Err(NumberFault::Malformed);
     }
     if b < 128 {
-        return Number::Value(low + 128 * b, at + 2);
+        return Ok((low + 128 * b, at + 2));
     }
     third(file, at, low + 128 * (b - 128))
 }
 
-// The number at a place.
-pub fn read_number(file: &[u8], at: usize) -> Number
+// The number at a place, and the place after it.
+pub fn read_number(file: &[u8], at: usize) -> Result<(u32, usize), NumberFault>
     ensures { result ≡ number_at file.now at }
 {
     if file.len() <= at {
-        return Number::Ends;
+        return Err(NumberFault::Ends);
     }
     let b = byte(file, at);
     if b < 128 {
-        return Number::Value(b, at + 1);
+        return Ok((b, at + 1));
     }
     second(file, at, b - 128)
 }
 
-// The number at a place, from low up to, but not with, limit; where it is not, the fault.
-pub fn read_within(file: &[u8], at: usize, low: u32, limit: u32, fault: Refusal) -> Got
+// The number at a place and the place after it, from low up to, but not with, limit; where it is not, the fault.
+pub fn read_within(
+    file: &[u8],
+    at: usize,
+    low: u32,
+    limit: u32,
+    fault: Refusal,
+) -> Result<(u32, usize), Refusal>
     ensures { result ≡ got_at file.now at (range low limit) fault }
 {
     match read_number(file, at) {
-        Number::Ends => Got::Refused(Refusal::Ends(file.len())),
-        Number::Malformed => Got::Refused(Refusal::Malformed(at)),
-        Number::Value(v, next) => {
+        Err(NumberFault::Ends) => Err(Refusal::Ends(file.len())),
+        Err(NumberFault::Malformed) => Err(Refusal::Malformed(at)),
+        Ok((v, next)) => {
             if kinds::is_within(v, low, limit) {
-                return Got::Value(v, next);
+                return Ok((v, next));
             }
-            Got::Refused(fault)
+            Err(fault)
         }
     }
 }

@@ -7,8 +7,7 @@ ghost use Rattle.numbers.specs.Numbers.{number_at};
 ghost use Rattle.reader.specs.Files.{read_of};
 ghost use Rattle.place.specs.Places.{next_of, first_slot, slots_of};
 
-use heads::Outcome;
-use numbers::Number;
+use numbers::{NumberFault, Refusal};
 use reader::Loaded;
 
 #[derive(Clone, Copy)]
@@ -22,7 +21,7 @@ pub struct Place<'a> {
 pub struct Step<'a> {
     src: &'a [u8],
     at: usize,
-    found: Number,
+    found: Result<(u32, usize), NumberFault>,
 }
 
 // The first place of a file.
@@ -33,13 +32,12 @@ pub fn new<'a>(src: &'a [u8]) -> Place<'a>
 }
 
 // The place after what was read at a place; where no number was read it is the same place.
-fn next_of(found: Number, at: usize) -> usize
+fn next_of(found: Result<(u32, usize), NumberFault>, at: usize) -> usize
     ensures { result ≡ next_of found at }
 {
     match found {
-        Number::Value(_, next) => next,
-        Number::Ends => at,
-        Number::Malformed => at,
+        Ok((_, next)) => next,
+        Err(_) => at,
     }
 }
 
@@ -58,7 +56,7 @@ pub fn step_from<'a>(r: Place<'a>) -> Step<'a>
 }
 
 // What the step read.
-pub fn number<'a>(s: Step<'a>) -> Number
+pub fn number<'a>(s: Step<'a>) -> Result<(u32, usize), NumberFault>
     ensures { result ≡ s.entry.found }
 {
     s.found
@@ -75,14 +73,14 @@ pub fn next<'a>(s: Step<'a>) -> Place<'a>
 }
 
 // The plan of a file, whatever the place in it.
-fn plan_at(file: &[u8], at: usize) -> Loaded
+fn plan_at(file: &[u8], at: usize) -> Result<Loaded, Refusal>
     ensures { result ≡ read_of file.now }
 {
     reader::read(file)
 }
 
 // The plan of the file that the place is in.
-pub fn plan<'a>(r: Place<'a>) -> Loaded
+pub fn plan<'a>(r: Place<'a>) -> Result<Loaded, Refusal>
     ensures { result ≡ read_of r.entry.src.now }
 {
     plan_at(r.src, r.at)
@@ -92,10 +90,7 @@ pub fn plan<'a>(r: Place<'a>) -> Loaded
 fn first_slot_at(file: &[u8], at: usize) -> usize
     ensures { result ≡ first_slot file.now }
 {
-    match reader::read_outcome(file) {
-        Outcome::At(place) => place,
-        Outcome::Refused(_) => file.len(),
-    }
+    reader::read_outcome(file).unwrap_or(file.len())
 }
 
 // The place of the first slot, in the file that the place is in.
@@ -126,14 +121,14 @@ pub fn rest<'a>(r: Place<'a>) -> &'a [u8]
 }
 
 // The first number of a file.
-pub fn first_number(file: &[u8]) -> Number
+pub fn first_number(file: &[u8]) -> Result<(u32, usize), NumberFault>
     ensures { result ≡ number_at file.now 0 }
 {
     number(step_from(new(file)))
 }
 
 // The plan of a file.
-pub fn plan_of(file: &[u8]) -> Loaded
+pub fn plan_of(file: &[u8]) -> Result<Loaded, Refusal>
     ensures { result ≡ read_of file.now }
 {
     plan(new(file))

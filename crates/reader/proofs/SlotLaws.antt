@@ -7,22 +7,22 @@ use native.Mathlib.Omega.{arith}
 use borrow.Author.Tests.{lt-leb, lt-ltb, le-leb, le-ltb}
 use lib.Dec.{ltb}
 use lib.ListN.{length, take, drop}
+use Rattle.std.specs.Prelude.{Ok, Err}
 use Rattle.vocabulary.specs.Least.{least, Least}
 use Rattle.vocabulary.proofs.Least.{least_is, least_same}
 use Rattle.vocabulary.proofs.Prefix.{part_length, part_entry}
 use Rattle.slots.specs.High.{high}
 use Rattle.numbers.specs.declared.Refusal.TheVariants as refusal
-use Rattle.heads.specs.declared.Outcome.TheVariants as outcome
 use Rattle.reader.specs.Files.{slots_from}
 use Rattle.reader.specs.HighSlots.{high_from}
 
 -- ---- one slot: it is not there; it is too high; it is passed
 module _ (s : List ℕ) (k at n : ℕ) where
-  slot_missing : length s ≤ at → slots_from s (suc k) at n ≡ outcome.Refused (refusal.Ends (length s))
+  slot_missing : length s ≤ at → slots_from s (suc k) at n ≡ Err (refusal.Ends (length s))
   unfolding slots_from
   slot_missing l = rw (le-leb (length s) at l)
 
-  slot_high : at < length s → high s n at ≡ true → slots_from s (suc k) at n ≡ outcome.Refused (refusal.BadSlot at)
+  slot_high : at < length s → high s n at ≡ true → slots_from s (suc k) at n ≡ Err (refusal.BadSlot at)
   unfolding slots_from
   slot_high l h = rw (lt-leb (length s) at l, h)
 
@@ -58,7 +58,7 @@ module _ (s : List ℕ) (k at n : ℕ) {there e : ℕ} (there-is : there ≡ min
   first = rw e-is (least_is (high_from s n at) there)
 
   -- ---- what the slots answer
-  pub slots_high : e < there → outcome.Refused (refusal.BadSlot (at + e)) ≡ slots_from s k at n
+  pub slots_high : e < there → Err (refusal.BadSlot (at + e)) ≡ slots_from s k at n
   slots_high l =
       let z : k - e ≡ suc (k - (e + 1)) = omega arith in
       sym (over s n e k at (omega arith) (omega arith) first.before ∙ rw z (slot_high s (k - (e + 1)) (at + e) n (omega arith) (first.found l)))
@@ -66,7 +66,7 @@ module _ (s : List ℕ) (k at n : ℕ) {there e : ℕ} (there-is : there ≡ min
   to_end : there ≤ e → slots_from s k at n ≡ slots_from s (k - there) (at + there) n
   to_end h = over s n there k at (omega arith) (omega arith) (λ i l. first.before i (omega arith))
 
-  pub slots_ended : there ≤ e → there < k → outcome.Refused (refusal.Ends (length s)) ≡ slots_from s k at n
+  pub slots_ended : there ≤ e → there < k → Err (refusal.Ends (length s)) ≡ slots_from s k at n
   slots_ended h l =
       let z : k - there ≡ suc (k - (there + 1)) = omega arith in
       sym (to_end h ∙ rw z (slot_missing s (k - (there + 1)) (at + there) n (omega arith)))
@@ -74,10 +74,10 @@ module _ (s : List ℕ) (k at n : ℕ) {there e : ℕ} (there-is : there ≡ min
   all_there : there ≤ e → k ≤ there → slots_from s k at n ≡ slots_from s 0 (at + there) n
   all_there h l = let z : k - there ≡ 0 = omega arith in to_end h ∙ rw z
 
-  pub slots_left : there ≤ e → k ≤ there → at + there < length s → outcome.Refused (refusal.LeftOver (at + there)) ≡ slots_from s k at n
+  pub slots_left : there ≤ e → k ≤ there → at + there < length s → Err (refusal.LeftOver (at + there)) ≡ slots_from s k at n
   unfolding slots_from
   slots_left h l g = sym (all_there h l ∙ rw (lt-ltb (at + there) (length s) g))
 
-  pub slots_all : there ≤ e → k ≤ there → length s ≤ at + there → outcome.At (at + there) ≡ slots_from s k at n
+  pub slots_all : there ≤ e → k ≤ there → length s ≤ at + there → Ok (at + there) ≡ slots_from s k at n
   unfolding slots_from
   slots_all h l g = sym (all_there h l ∙ rw (le-ltb (at + there) (length s) g))

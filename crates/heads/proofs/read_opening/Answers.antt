@@ -1,33 +1,20 @@
+use Rattle.std.proofs.Common.{rules}
 use Rattle.numbers.specs.Numbers.{and_then}
 use Rattle.heads.specs.Heads.{opening_of}
 use Rattle.heads.proofs.read_opening.Goals as goal
 
-pub returns-in-Refused : goal.returns-in-Refused
+pub returns-in_err-e : goal.returns-in_err-e
 unfolding opening_of and_then
-returns-in-Refused c = simp (← c.read_within.ensures, c.in-Refused.is)
+returns-in_err-e c = search rules
 
-pub returns-in-Refused-read_within : goal.returns-in-Refused-read_within
+pub returns-in_err-n : goal.returns-in_err-n
 unfolding opening_of and_then
-returns-in-Refused-read_within c = simp (← c.read_within.ensures, c.in-Value.is, ← c.read_within-in-Value.ensures, c.in-Refused-read_within.is)
+returns-in_err-n c = search rules
 
-pub returns-in-Refused-read_within-2 : goal.returns-in-Refused-read_within-2
+pub returns-in_err-m : goal.returns-in_err-m
 unfolding opening_of and_then
-returns-in-Refused-read_within-2 c = simp (
-  ← c.read_within.ensures,
-  c.in-Value.is,
-  ← c.read_within-in-Value.ensures,
-  c.in-Value-read_within.is,
-  ← c.read_within-in-Value-read_within.ensures,
-  c.in-Refused-read_within-2.is,
-)
+returns-in_err-m c = search rules
 
-pub returns-in-Value-read_within-2 : goal.returns-in-Value-read_within-2
+pub returns : goal.returns
 unfolding opening_of and_then
-returns-in-Value-read_within-2 c = simp (
-  ← c.read_within.ensures,
-  c.in-Value.is,
-  ← c.read_within-in-Value.ensures,
-  c.in-Value-read_within.is,
-  ← c.read_within-in-Value-read_within.ensures,
-  c.in-Value-read_within-2.is,
-)
+returns c = search rules

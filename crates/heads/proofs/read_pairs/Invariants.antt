@@ -6,6 +6,3 @@ use Rattle.heads.proofs.read_pairs.Given as goal
 
 abbrev pub invariant-loop-j : goal.invariant-loop-j
 invariant-loop-j l = (l.j ≤ l.end) × (pairs_from l.file (l.end - l.j) l.at l.low l.limit_a l.limit_b l.j l.pairs ≡ pairs_from l.file l.n l.start no_key l.limit_a l.limit_b l.used l.initial.pairs)
-
-abbrev pub decreases-loop-j : goal.decreases-loop-j
-decreases-loop-j l = l.end - l.j

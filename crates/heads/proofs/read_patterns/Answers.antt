@@ -3,6 +3,7 @@ use native.Mathlib.Nat.{sub-zero}
 use native.Mathlib.Omega.{arith}
 use Rattle.heads.specs.LoopSteps.{patterns_stop, patterns_turn, patterns_none}
 use Rattle.heads.proofs.Bounds.{pattern_low}
+use Rattle.std.proofs.lemmas.Result.{err_from_is_err_and}
 use borrow.Author.Rules.{rules}
 use Rattle.heads.proofs.read_patterns.Goals as goal
 
@@ -15,23 +16,19 @@ read_pattern-requires c =
     let a = c.requires in
     (omega (arith, c.loop-i-test.true, a.1), a.0, a.2, v.1, v.2)
 
-pub returns-in-Refused : goal.returns-in-Refused
-returns-in-Refused c = sym (patterns_stop _ _ _ _ _ _ _ _ c.loop-i-test.true c.read_pattern.ensures c.in-Refused.is) ∙ c.loop-i.invariant.3
-
-pub overflow_add-i : goal.overflow_add-i
-overflow_add-i c = omega (arith, c.requires)
-
-pub loop-i-smaller : goal.loop-i-smaller
-loop-i-smaller c = omega arith
+pub returns-in_err-done : goal.returns-in_err-done
+returns-in_err-done c =
+    let e = err_from_is_err_and c.from_residual.result c.from_residual.ensures.1 in
+    rw (e.1, e.2) (sym (patterns_stop _ _ _ _ _ _ _ _ c.loop-i-test.true c.read_pattern.ensures c.in_err-done.was) ∙ c.loop-i.invariant.3)
 
 pub loop-i-preserved : goal.loop-i-preserved
 loop-i-preserved c =
     let v = c.loop-i.invariant in
-    let l = pattern_low _ _ _ _ _ _ _ c.requires.2 c.read_pattern.ensures c.in-To.is in (
+    let l = pattern_low _ _ _ _ _ _ _ c.requires.2 c.read_pattern.ensures c.in_ok-done.was in (
       omega arith,
       l.0,
       omega (arith, v.2, l.1),
-      sym (patterns_turn _ _ _ _ _ _ _ _ c.loop-i-test.true c.read_pattern.ensures c.in-To.is) ∙ v.3,
+      sym (patterns_turn _ _ _ _ _ _ _ _ c.loop-i-test.true c.read_pattern.ensures c.in_ok-done.was) ∙ v.3,
     )
 
 pub returns : goal.returns

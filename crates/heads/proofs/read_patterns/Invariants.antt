@@ -10,6 +10,3 @@ invariant-loop-i l =
     (l.i ≤ l.f.patterns) × (l.done.used ≤ 1024) × (l.done.links ≤ 6144000 * l.i)
     × (patterns_from l.file l.f.edition (tasks_of l.f.tasks l.attributes) l.f.ticks (l.f.patterns - l.i) l.i l.done (pattern_tables l.headings l.pairs)
     ≡ patterns_after l.file l.start l.f l.attributes (pattern_tables l.initial.headings l.initial.pairs))
-
-abbrev pub decreases-loop-i : goal.decreases-loop-i
-decreases-loop-i l = l.f.patterns - l.i

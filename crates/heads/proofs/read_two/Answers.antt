@@ -1,15 +1,16 @@
-use Rattle.heads.specs.Tables.{two_at}
+use Rattle.std.proofs.Common.{rules}
 use Rattle.numbers.specs.Numbers.{and_then}
+use Rattle.heads.specs.Tables.{two_at}
 use Rattle.heads.proofs.read_two.Goals as goal
 
-pub returns-in-Refused : goal.returns-in-Refused
+pub returns-in_err-x : goal.returns-in_err-x
 unfolding two_at and_then
-returns-in-Refused c = simp (← c.read_within.ensures, c.in-Refused.is)
+returns-in_err-x c = search rules
 
-pub returns-in-Refused-read_within : goal.returns-in-Refused-read_within
+pub returns-in_err-y : goal.returns-in_err-y
 unfolding two_at and_then
-returns-in-Refused-read_within c = simp (← c.read_within.ensures, c.in-Value.is, ← c.low_second.ensures, ← c.read_within-in-Value.ensures, c.in-Refused-read_within.is)
+returns-in_err-y c = search rules
 
-pub returns-in-Value-read_within : goal.returns-in-Value-read_within
+pub returns : goal.returns
 unfolding two_at and_then
-returns-in-Value-read_within c = simp (← c.read_within.ensures, c.in-Value.is, ← c.low_second.ensures, ← c.read_within-in-Value.ensures, c.in-Value-read_within.is)
+returns c = search rules

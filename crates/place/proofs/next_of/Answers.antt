@@ -1,11 +1,11 @@
-use Rattle.place.proofs.PlaceLaws.{next_behind, next_ends, next_malformed}
+use Rattle.std.proofs.Common.{rules}
+use Rattle.place.specs.Places.{next_of}
 use Rattle.place.proofs.next_of.Goals as goal
 
-pub returns-in-Value : goal.returns-in-Value
-returns-in-Value c = next_behind _ _ _ _ c.in-Value.is
+pub returns-in-Ok : goal.returns-in-Ok
+unfolding next_of
+returns-in-Ok c = search rules
 
-pub returns-in-Ends : goal.returns-in-Ends
-returns-in-Ends c = next_ends _ _ c.in-Ends.is
-
-pub returns-in-Malformed : goal.returns-in-Malformed
-returns-in-Malformed c = next_malformed _ _ c.in-Malformed.is
+pub returns-in-Err : goal.returns-in-Err
+unfolding next_of
+returns-in-Err c = search rules

@@ -1,9 +1,16 @@
-use mathlib.Core.Path.{◌∙◌}
-use Rattle.reader.proofs.Ways.{read_refused, read_closed}
+use Rattle.std.proofs.lemmas.Result.{err_from_is_err_and}
+use Rattle.reader.proofs.Ways.{read_refused, read_stopped, read_closed}
 use Rattle.reader.proofs.read.Goals as goal
 
-pub returns-in-Refused : goal.returns-in-Refused
-returns-in-Refused c = c.refuse.ensures ∙ read_refused _ _ _ c.read_head.ensures c.in-Refused.is
+pub returns-in_err-f : goal.returns-in_err-f
+returns-in_err-f c =
+    let e = err_from_is_err_and c.from_residual.result c.from_residual.ensures.1 in
+    rw (e.1, e.2) (read_refused _ _ _ c.read_head.ensures c.in_err-f.was)
 
-pub returns-in-Of : goal.returns-in-Of
-returns-in-Of c = read_closed _ _ _ c.read_head.ensures c.in-Of.is c.of-set.ensures c.close_file.ensures
+pub returns-in_err-first_slot : goal.returns-in_err-first_slot
+returns-in_err-first_slot c =
+    let e = err_from_is_err_and c.from_residual-in_err-first_slot.result c.from_residual-in_err-first_slot.ensures.1 in
+    rw (e.1, e.2) (read_stopped _ _ _ c.read_head.ensures c.in_ok-f.was c.end_file.ensures c.in_err-first_slot.was)
+
+pub returns : goal.returns
+returns c = read_closed _ _ _ c.read_head.ensures c.in_ok-f.was c.end_file.ensures c.in_ok-first_slot.was c.of-set.ensures

@@ -1,8 +1,11 @@
+use Rattle.std.proofs.lemmas.Result.{err_from_is_err_and}
 use Rattle.reader.proofs.Ways.{answer-refused, answer-ended}
 use Rattle.reader.proofs.read_outcome.Goals as goal
 
-pub returns-in-Refused : goal.returns-in-Refused
-returns-in-Refused c = answer-refused _ _ _ c.read_head.ensures c.in-Refused.is
+pub returns-in_err-f : goal.returns-in_err-f
+returns-in_err-f c =
+    let e = err_from_is_err_and c.from_residual.result c.from_residual.ensures.1 in
+    rw (e.1, e.2) (answer-refused _ _ _ c.read_head.ensures c.in_err-f.was)
 
-pub returns-in-Of : goal.returns-in-Of
-returns-in-Of c = answer-ended _ _ _ c.read_head.ensures c.in-Of.is c.end_file.ensures
+pub returns : goal.returns
+returns c = answer-ended _ _ _ c.read_head.ensures c.in_ok-f.was c.end_file.ensures
