@@ -359,6 +359,6 @@ pub fn evidence_of(a: Answer, which: u32) -> usize
         Answer::WrongLength => 0,
         Answer::BadState => 0,
         Answer::BadReport => 0,
-        Answer::BadSlot(e) => evidence::one_of(which, e),
+        Answer::BadSlot(e) => evidence::number_at(which, &[e]),
     }
 }

@@ -132,10 +132,10 @@ pub fn evidence_of(w: Written, which: u32) -> usize
     ensures { result ≡ get_or (evidence_of w) which 0 }
 {
     match w {
-        Written::Length(n) => evidence::one_of(which, n),
+        Written::Length(n) => evidence::number_at(which, &[n]),
         Written::BadSet => 0,
         Written::WrongLength => 0,
-        Written::BadSlot(e) => evidence::one_of(which, e),
+        Written::BadSlot(e) => evidence::number_at(which, &[e]),
         Written::TooShort => 0,
     }
 }
