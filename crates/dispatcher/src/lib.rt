@@ -157,8 +157,7 @@ impl State {
         ensures { result ≡ look_from 12 true true false (tick_on f attributes.now (λ q. get_or row.now q 0) 0 self report) }
     {
         let n = f.tasks;
-        let q = slots::first_high(row, n);
-        if q < row.len() {
+        if let Some(q) = slots::first_high(row, n) {
             return refused(Answer::BadSlot(q));
         }
         let heard = self.ran & report;

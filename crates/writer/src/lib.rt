@@ -41,8 +41,7 @@ fn answer<'a>(
     if plan.len() != f.processors as usize * f.ticks as usize {
         return Written::WrongLength;
     }
-    let e = slots::first_high(plan, f.tasks);
-    if e < plan.len() {
+    if let Some(e) = slots::first_high(plan, f.tasks) {
         return Written::BadSlot(e);
     }
     let length = lengths::head_length(f, attributes, headings, pairs) + plan.len();
