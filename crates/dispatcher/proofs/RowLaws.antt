@@ -1,4 +1,5 @@
 -- A step over a row from its parts.
+use Rattle.std.specs.Prelude.{Option, Some, None}
 use mathlib.Core.Path.{◌≡◌, sym, ap, ◌∙◌, fun_ext}
 use mathlib.Core.Bool.{Bool, true, false, ◌&&◌, ◌||◌, not}
 use mathlib.Core.List.{List, []}
@@ -13,8 +14,8 @@ use lib.Pow.{pow_mono}
 use borrow.Author.Tests.{lt-leb, ltb-false, eqb-true}
 use Rattle.vocabulary.specs.Test.{pick}
 use Rattle.vocabulary.proofs.Test.{lt_or_le, same_test}
-use Rattle.vocabulary.specs.Least.{least, some}
-use Rattle.vocabulary.proofs.Least.{some_same, some_yes, some_at, some_lt, some_ge, some_not}
+use Rattle.vocabulary.specs.Least.{least, some, lowest}
+use Rattle.vocabulary.proofs.Least.{some_same, some_yes, some_at, some_lt, some_not, some_least, none_least}
 use Rattle.vocabulary.specs.Bits.{has, pack}
 use Rattle.vocabulary.proofs.Words.{heard_word}
 use Rattle.vocabulary.specs.Table.{table}
@@ -63,24 +64,27 @@ in_eight bytes j short = some_same (stands_at (eight bytes) j) (stands_at bytes 
     back e = let w = some_at (stands_at bytes j) (length bytes) e in some_yes (stands_at bytes j) 8 (least (stands_at bytes j) (length bytes)) (omega (arith, w.0)) w.1
 
 -- ---- 12
-pub row_first : (row : List ℕ) (n m : ℕ) {q : ℕ} → length row ≡ m → q ≡ least (high row n) (length row) → q ≡ least (high_slot n (λ k. get_or row k 0)) m
+pub row_first : (row : List ℕ) (n m : ℕ) {q : Option ℕ} → length row ≡ m → q ≡ lowest (high row n) (length row) → q ≡ lowest (high_slot n (λ k. get_or row k 0)) m
 unfolding high high_slot
-row_first row n m e h = h ∙ ap (least (high_slot n (λ k. get_or row k 0))) e
+row_first row n m e h = h ∙ ap (lowest (high_slot n (λ k. get_or row k 0))) e
 
-module _ (k : OneTick) {q : ℕ} (first : q ≡ least (high_slot k.tasks.count k.row) k.processors) where
-  pub row_refused : k.place ≡ 0 → q < k.processors → look (answer.BadSlot q) first_state [] ≡ look_from 12 true true false k
+module _ (k : OneTick) where
+  pub row_refused : {q : ℕ} → k.place ≡ 0 → Some q ≡ lowest (high_slot k.tasks.count k.row) k.processors
+      → look (answer.BadSlot q) first_state [] ≡ look_from 12 true true false k
   unfolding look_from look_by step_rules from first_of if_shown is_high high_place
-  row_refused p l =
-      let e : k.place + least (high_slot k.tasks.count k.row) k.processors ≡ q = omega (arith, first) in
-      rw (some_lt (high_slot k.tasks.count k.row) k.processors q first l, e)
+  row_refused {q} p found =
+      let w = some_least (high_slot k.tasks.count k.row) k.processors q found in
+      let e : k.place + least (high_slot k.tasks.count k.row) k.processors ≡ q = omega (arith, w.0) in
+      rw (some_lt (high_slot k.tasks.count k.row) k.processors q w.0 w.1, e)
 
-  pub row_low : k.processors ≤ q → is_high k ≡ false
-  unfolding is_high
-  row_low l = some_ge (high_slot k.tasks.count k.row) k.processors q first l
+  module _ (no : None ≡ lowest (high_slot k.tasks.count k.row) k.processors) where
+    pub row_low : is_high k ≡ false
+    unfolding is_high
+    row_low = (none_least (high_slot k.tasks.count k.row) k.processors no).1
 
-  pub slots_low : k.processors ≤ q → (j : ℕ) → j < k.processors → k.row j ≤ k.tasks.count
-  unfolding is_high high_slot
-  slots_low l j b = ltb-false k.tasks.count (k.row j) (some_not (high_slot k.tasks.count k.row) k.processors (row_low l) j b)
+    pub slots_low : (j : ℕ) → j < k.processors → k.row j ≤ k.tasks.count
+    unfolding is_high high_slot
+    slots_low j b = ltb-false k.tasks.count (k.row j) (some_not (high_slot k.tasks.count k.row) k.processors row_low j b)
 
 -- a list whose entries are at most n up to its end
 pub all_low : (row : List ℕ) (m n : ℕ) → length row ≡ m → ((j : ℕ) → j < m → get_or row j 0 ≤ n) → (j : ℕ) → get_or row j 0 ≤ n

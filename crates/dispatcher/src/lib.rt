@@ -157,8 +157,7 @@ impl State {
         ensures { result ≡ look_from 12 true true false (tick_on f attributes.now (λ q. get_or row.now q 0) 0 self report) }
     {
         let n = f.tasks;
-        let q = slots::first_high(row, n);
-        if q < row.len() {
+        if let Some(q) = slots::first_high(row, n) {
             return refused(Answer::BadSlot(q));
         }
         let heard = self.ran & report;
@@ -358,6 +357,6 @@ pub fn evidence_of(a: Answer, which: u32) -> usize
         Answer::WrongLength => 0,
         Answer::BadState => 0,
         Answer::BadReport => 0,
-        Answer::BadSlot(e) => evidence::one_of(which, e),
+        Answer::BadSlot(e) => evidence::number_at(which, &[e]),
     }
 }

@@ -32,7 +32,7 @@ pub extern "C" fn flute_read_evidence(file: &[u8], which: u32) -> u32
     ensures { result ≡ read_evidence file.now which }
 {
     let place = reader::evidence_of(reader::read_outcome(file));
-    narrow(evidence::one_of(which, place))
+    narrow(evidence::number_at(which, &[place]))
 }
 
 #[unsafe(no_mangle)]

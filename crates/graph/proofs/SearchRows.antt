@@ -1,10 +1,10 @@
 -- Laws of the definitions in specs/SearchRows.antt.
-use Rattle.std.specs.Prelude.{◌≡◌, refl, Bool, true, false, List, [], ◌⊎◌, ℕ, ◌+◌, ◌-◌, ◌≤◌, ◌<◌, length, get_or, set}
+use Rattle.std.specs.Prelude.{◌≡◌, refl, Bool, true, false, List, [], ◌⊎◌, ℕ, ◌+◌, ◌-◌, ◌≤◌, ◌<◌, length, get_or, set, Option, Some, None}
 use Rattle.std.proofs.Common.{sym, ap, ◌∙◌, inl, inr, ⊎_elim, arith, length-set, get_or-set_same, get_or-set_other}
 use Rattle.std.proofs.Math.ListN.{get_or-eq_default}
 use Rattle.vocabulary.proofs.Test.{clash, lt_or_le, eq_or_ne}
-use Rattle.vocabulary.proofs.Least.{seek, on, hit, miss}
-use Rattle.graph.specs.Graph.{graph_of, Way, loops, lowest}
+use Rattle.vocabulary.proofs.Least.{seek, on, found, nowhere}
+use Rattle.graph.specs.Graph.{graph_of, Way, loops, lowest_job}
 use Rattle.graph.proofs.Reach.{loops_iff}
 use Rattle.graph.specs.Column.{column}
 use Rattle.graph.proofs.Column.{column_long, column_at, column_set, column_kept}
@@ -108,33 +108,25 @@ module _ (links : List (List ℕ)) (k x tail : ℕ) (rows : List (List ℕ)) (a 
   way = rw end_is at (way_by (links_of_rows links rows) x k low₁ a.came)
 
   -- it closes
-  pub visit_found : y ≡ x → SearchVisited links k x tail rows rows 0
-  visit_found e =
-      record {
-        long = refl;
-        lists = refl;
-        found = λ z. rw e at way;
-        queued = λ l. absurd (omega arith);
-        grown = λ l. absurd (omega arith);
-        closed = λ l. absurd (omega arith);
-      }
+  pub visit_found : y ≡ x → SearchVisited links k x tail rows rows None
+  visit_found e = record { long = refl; lists = refl; found = rw e at way; queued = tt; grown = tt; closed = tt }
 
-  stays : Closed (ends links) x (marks rows) k → SearchVisited links k x tail rows rows tail
+  stays : Closed (ends links) x (marks rows) k → SearchVisited links k x tail rows rows (Some tail)
   stays h =
       record {
         long = refl;
         lists = refl;
-        found = λ z. absurd (omega (arith, a.queued.some));
-        queued = λ l. a.queued;
-        grown = λ l. grown_none x (marks rows) (queue rows) tail;
-        closed = λ l. h;
+        found = tt;
+        queued = a.queued;
+        grown = grown_none x (marks rows) (queue rows) tail;
+        closed = h;
       }
 
-  pub visit_below : y < x → SearchVisited links k x tail rows rows tail
+  pub visit_below : y < x → SearchVisited links k x tail rows rows (Some tail)
   visit_below l = stays (inl (omega (arith, end_is)))
 
   module _ (ne : y ≡ x → ⊥) where
-    pub visit_seen : get_or (get_or rows y []) 1 0 ≡ x + 1 → SearchVisited links k x tail rows rows tail
+    pub visit_seen : get_or (get_or rows y []) 1 0 ≡ x + 1 → SearchVisited links k x tail rows rows (Some tail)
     visit_seen e = stays (inr (ap (at (marks rows)) end_is ∙ column_at 1 rows y ∙ e, λ q. ne (sym end_is ∙ q)))
 
     module _ (new : get_or (get_or rows y []) 1 0 ≡ x + 1 → ⊥) where
@@ -171,16 +163,16 @@ module _ (links : List (List ℕ)) (k x tail : ℕ) (rows : List (List ℕ)) (a 
           column_set 2 rows₁ tail (with_place (get_or rows₁ tail []) y)
           ∙ ap (λ (xs : List ℕ). set xs tail y) (column_kept 2 rows y (with_mark (get_or rows y []) (x + 1)) refl)
 
-      pub visit_new : SearchVisited links k x tail rows rows₂ (tail + 1)
+      pub visit_new : SearchVisited links k x tail rows rows₂ (Some (tail + 1))
       visit_new =
           record {
             long = length-set rows₁ tail (with_place (get_or rows₁ tail []) y) ∙ length-set rows y (with_mark (get_or rows y []) (x + 1));
             lists = heads_are;
-            found = λ z. absurd (omega arith);
-            queued = λ l. rw (marks_are, queue_is) (queue_on (links_of_rows links rows) x (marks rows) (queue rows) tail y a.queued visit_place unseen way);
-            grown = λ l. rw (marks_are, queue_is) (queue_grown (links_of_rows links rows) x (marks rows) (queue rows) tail y a.queued visit_place unseen);
+            found = tt;
+            queued = rw (marks_are, queue_is) (queue_on (links_of_rows links rows) x (marks rows) (queue rows) tail y a.queued visit_place unseen way);
+            grown = rw (marks_are, queue_is) (queue_grown (links_of_rows links rows) x (marks rows) (queue rows) tail y a.queued visit_place unseen);
             closed =
-                λ l. inr (
+                inr (
                   rw (end_is, marks_are)
                       (mark_here (links_of_rows links rows) x (marks rows) (queue rows) tail y a.queued visit_place unseen),
                   λ q. ne (sym end_is ∙ q),
@@ -226,43 +218,30 @@ module _ (links : List (List ℕ)) (next : List ℕ) (v x tail : ℕ) (rows : Li
     pub walk_less : {j : ℕ} → j ≡ at next (i - 1) → j < i
     walk_less e = omega (arith, e, a.lists.next_low (i - 1) (omega (arith, p.low)))
 
-    module _ (rows'' : List (List ℕ)) (t' : ℕ) (w : SearchVisited links (i - 1) x t rows' rows'' t') where
-      pub walk_found : t' ≡ 0 → SearchWalked links v x tail rows rows'' 0
-      walk_found z =
+    module _ (rows'' : List (List ℕ)) where
+      pub walk_found : SearchVisited links (i - 1) x t rows' rows'' None → SearchWalked links v x tail rows rows'' None
+      walk_found w =
           let e = p.long in
-          record {
-            long = w.long ∙ p.long;
-            lists = w.lists ∙ p.lists;
-            found = λ q. rw e at (w.found z);
-            queued = λ l. absurd (omega arith);
-            grown = λ l. absurd (omega arith);
-            closed = λ l. absurd (omega arith);
-          }
+          record { long = w.long ∙ p.long; lists = w.lists ∙ p.lists; found = rw e at w.found; queued = tt; grown = tt; closed = tt }
 
-      pub walk_on : (t' ≡ 0 → ⊥) → {j : ℕ} → j ≡ at next (i - 1) → SearchWalking links v x tail rows rows'' j t'
-      walk_on z {j} ej =
+      pub walk_on : {t' : ℕ} → SearchVisited links (i - 1) x t rows' rows'' (Some t') → {j : ℕ} → j ≡ at next (i - 1)
+          → SearchWalking links v x tail rows rows'' j t'
+      walk_on {t'} w {j} ej =
           let e = p.long in
-          let l : 0 < t' = pos_of t' z in
           let m : i - 1 < length links = omega (arith, p.low) in
           record {
             long = w.long ∙ p.long;
             lists = w.lists ∙ p.lists;
             low = omega (arith, a.lists.next_low (i - 1) m);
             own = λ h q. a.lists.next_own (i - 1) h m (sym ej ∙ q) ∙ p.own (i - 1) last;
-            queued = rw e at (w.queued l);
-            grown = grown_on x (marks rows) (queue rows) tail (marks rows') (queue rows') t (marks rows'') (queue rows'') t' p.grown (w.grown l);
-            done = λ h lh mh q. go h lh mh q l (w.closed l) (w.grown l);
+            queued = rw e at w.queued;
+            grown = grown_on x (marks rows) (queue rows) tail (marks rows') (queue rows') t (marks rows'') (queue rows'') t' p.grown w.grown;
+            done = λ h lh mh q. go h lh mh q w.closed w.grown;
           }
         where
-          pos_of : (n : ℕ) → (n ≡ 0 → ⊥) → 0 < n
-          pos_of n h = ⊎_elim (λ q. absurd (h (omega arith))) (λ q. q) (eq_or_lt n)
-            where
-              eq_or_lt : (n : ℕ) → (n < 1) ⊎ (1 ≤ n)
-              eq_or_lt n = lt_or_le n 1
-
-          go : (h : ℕ) → h < length links → j ≤ h → at (starts links) h ≡ v → 0 < t' → Closed (ends links) x (marks rows'') (i - 1)
+          go : (h : ℕ) → h < length links → j ≤ h → at (starts links) h ≡ v → Closed (ends links) x (marks rows'') (i - 1)
               → Grown x (marks rows') (queue rows') t (marks rows'') (queue rows'') t' → Closed (ends links) x (marks rows'') h
-          go h lh mh q l c g = by (lt_or_le h i) (eq_or_ne h (i - 1))
+          go h lh mh q c g = by (lt_or_le h i) (eq_or_ne h (i - 1))
             where
               by : (h < i) ⊎ (i ≤ h) → (h ≡ i - 1) ⊎ (h ≡ i - 1 → ⊥) → Closed (ends links) x (marks rows'') h
               by (inr n) d = closed_grown (ends links) x (marks rows') (queue rows') t (marks rows'') (queue rows'') t' h g (p.done h lh n q)
@@ -275,15 +254,15 @@ module _ (links : List (List ℕ)) (next : List ℕ) (v x tail : ℕ) (rows : Li
                         (⊎_elim (λ b. b) (λ b. absurd (d (omega arith))) (lt_or_le h (i - 1))) (q ∙ sym (p.own (i - 1) last)),
                   ))
 
-  pub walk_end : (rows' : List (List ℕ)) (i t : ℕ) → SearchWalking links v x tail rows rows' i t → i ≤ 0 → SearchWalked links v x tail rows rows' t
+  pub walk_end : (rows' : List (List ℕ)) (i t : ℕ) → SearchWalking links v x tail rows rows' i t → i ≤ 0 → SearchWalked links v x tail rows rows' (Some t)
   walk_end rows' i t p l =
       record {
         long = p.long;
         lists = p.lists;
-        found = λ z. absurd (omega (arith, p.queued.some));
-        queued = λ h. p.queued;
-        grown = λ h. p.grown;
-        closed = λ h e le q. p.done e le (omega arith) q;
+        found = tt;
+        queued = p.queued;
+        grown = p.grown;
+        closed = λ e le q. p.done e le (omega arith) q;
       }
 
 module _ (x : ℕ) (rows : List (List ℕ)) where
@@ -365,31 +344,30 @@ module _ (links : List (List ℕ)) (next : List ℕ) (x : ℕ) (rows : List (Lis
             queued = rw e p.queued;
           }
 
-      module _ (rows'' : List (List ℕ)) (t : ℕ) (w : SearchWalked links v x tail rows' rows'' t) where
-        pub probe_found : t ≡ 0 → Probed links x rows rows'' true
-        probe_found z =
+      module _ (rows'' : List (List ℕ)) where
+        pub probe_found : SearchWalked links v x tail rows' rows'' None → Probed links x rows rows'' true
+        probe_found w =
             let e = p.long in
             record {
               long = w.long ∙ p.long;
               lists = w.lists ∙ p.lists;
               answer =
                   sym ((loops_iff (links_of_rows links rows) x (between_inside (starts links) (ends links) (length rows) a.between)).1
-                  (rw e at (w.found z)));
+                  (rw e at w.found));
               old = λ q. clash refl q;
             }
 
-        pub probe_on : (t ≡ 0 → ⊥) → Probing links x rows rows'' t (place + 1)
-        probe_on z =
+        pub probe_on : {t : ℕ} → SearchWalked links v x tail rows' rows'' (Some t) → Probing links x rows rows'' t (place + 1)
+        probe_on {t} w =
             let e = p.long in
-            let some : 0 < t = ⊎_elim (λ q. absurd (z (omega arith))) (λ q. q) (lt_or_le t 1) in
-            let g = w.grown some in
+            let g : Grown x (marks rows') (queue rows') tail (marks rows'') (queue rows'') t = w.grown in
             record {
               long = w.long ∙ p.long;
               lists = w.lists ∙ p.lists;
               within = omega (arith, g.up);
-              queued = rw e at (w.queued some);
+              queued = rw e at w.queued;
               begun = g.seen x p.begun;
-              done = λ j h lj lh q. go j h lj lh q g (w.closed some) (lt_or_le j place);
+              done = λ j h lj lh q. go j h lj lh q g w.closed (lt_or_le j place);
             }
           where
             go : (j h : ℕ) → j < place + 1 → h < length links → at (starts links) h ≡ at (queue rows'') j
@@ -432,8 +410,8 @@ module _ (links : List (List ℕ)) (next₀ next : List ℕ) (rows₀ rows₁ ro
         };
       }
 
-  pub sought : {x : ℕ} → x ≡ lowest (links_of_rows links rows) → x ≡ lowest (links_of_rows links rows₀)
-  sought e = e ∙ ap (λ (n : ℕ). lowest (graph_of (starts links) (ends links) n)) (p.long ∙ c.long)
+  pub sought : {x : Option ℕ} → x ≡ lowest_job (links_of_rows links rows) → x ≡ lowest_job (links_of_rows links rows₀)
+  sought e = e ∙ ap (λ (n : ℕ). lowest_job (graph_of (starts links) (ends links) n)) (p.long ∙ c.long)
 
 module _ (links : List (List ℕ)) (next : List ℕ) (rows rows' : List (List ℕ)) (x : ℕ) (a : SeekAsked links next rows)
     (p : Searching links next rows rows' x) (l : x < length rows') where
@@ -454,9 +432,9 @@ module _ (links : List (List ℕ)) (next : List ℕ) (rows rows' : List (List �
     answer : r ≡ loops (links_of_rows links rows) x
     answer = let e = p.long in rw e at w.answer
 
-    pub search_found : r ≡ true → x ≡ lowest (links_of_rows links rows)
-    unfolding lowest
-    search_found e = hit (loops (links_of_rows links rows)) (length rows) x p.seeking (sym answer ∙ e)
+    pub search_found : r ≡ true → Some x ≡ lowest_job (links_of_rows links rows)
+    unfolding lowest_job
+    search_found e = found (loops (links_of_rows links rows)) (length rows) x p.seeking (omega (arith, p.long)) (sym answer ∙ e)
 
     pub search_on : r ≡ false → Searching links next rows rows'' (x + 1)
     search_on e =
@@ -469,6 +447,6 @@ module _ (links : List (List ℕ)) (next : List ℕ) (rows rows' : List (List �
         }
 
 pub search_end : (links : List (List ℕ)) (next : List ℕ) (rows rows' : List (List ℕ)) (x : ℕ) → Searching links next rows rows' x → length rows' ≤ x
-    → x ≡ lowest (links_of_rows links rows)
-unfolding lowest
-search_end links next rows rows' x p l = miss (loops (links_of_rows links rows)) (length rows) x p.seeking (omega (arith, p.long))
+    → None ≡ lowest_job (links_of_rows links rows)
+unfolding lowest_job
+search_end links next rows rows' x p l = nowhere (loops (links_of_rows links rows)) (length rows) x p.seeking (omega (arith, p.long))

@@ -1,6 +1,6 @@
 -- Jobs and links: what it is to lie on a cycle.
-use Rattle.std.specs.Prelude.{◌≡◌, Bool, false, ◌&&◌, ◌||◌, ℕ, zero, suc, ◌<◌, eqb, length, get_or, List}
-use Rattle.vocabulary.specs.Least.{least, some}
+use Rattle.std.specs.Prelude.{◌≡◌, Bool, false, ◌&&◌, ◌||◌, ℕ, zero, suc, ◌<◌, eqb, length, get_or, List, Option}
+use Rattle.vocabulary.specs.Least.{least, some, lowest as least_of}
 
 -- n jobs, e links: link k leads from job `from k` to job `to k`
 pub record Graph : Type 0 where
@@ -34,3 +34,7 @@ loops g x = reach g x g.n x
 -- the lowest job that lies on a cycle, n where none does
 unfoldable pub lowest : Graph → ℕ
 lowest g = least (loops g) g.n
+
+-- the same, none where no job lies on a cycle
+unfoldable pub lowest_job : Graph → Option ℕ
+lowest_job g = least_of (loops g) g.n

@@ -1,5 +1,5 @@
 -- The search over rows of jobs: column 0 has the heads of the lists of links, column 1 the marks, column 2 the queue.
-use Rattle.std.specs.Prelude.{◌≡◌, Bool, false, List, [], ◌∷◌, ℕ, ◌+◌, ◌≤◌, ◌<◌, length, get_or, set}
+use Rattle.std.specs.Prelude.{◌≡◌, Bool, false, List, [], ◌∷◌, ℕ, ◌+◌, ◌≤◌, ◌<◌, length, get_or, set, Option, IfSome, IfNone}
 use Rattle.vocabulary.specs.Least.{Seeking}
 use Rattle.graph.specs.Graph.{Graph, graph_of, Way, loops}
 use Rattle.graph.specs.Column.{column}
@@ -66,7 +66,7 @@ pub record ThreadMade (links : List (List ℕ)) (next : List ℕ) (rows rows' : 
   pub lists : Threaded (starts links) (heads rows') next k
   pub unseen : (x : ℕ) → at (marks rows') x ≡ 0
 
--- ---- one link of the search from x
+-- ---- one link of the search from x: none where it leads back to x, else how long the queue is then
 pub record VisitAsked (links : List (List ℕ)) (k x tail : ℕ) (rows : List (List ℕ)) : Type 0 where
   pub between : Between (starts links) (ends links) (length rows)
   pub few_jobs : length rows ≤ 2048
@@ -75,13 +75,13 @@ pub record VisitAsked (links : List (List ℕ)) (k x tail : ℕ) (rows : List (L
   pub came : Came (links_of_rows links rows) x (at (starts links) k)
   pub queued : Queued (links_of_rows links rows) x (marks rows) (queue rows) tail
 
-pub record SearchVisited (links : List (List ℕ)) (k x tail : ℕ) (rows rows' : List (List ℕ)) (r : ℕ) : Type 0 where
+pub record SearchVisited (links : List (List ℕ)) (k x tail : ℕ) (rows rows' : List (List ℕ)) (r : Option ℕ) : Type 0 where
   pub long : length rows' ≡ length rows
   pub lists : heads rows' ≡ heads rows
-  pub found : r ≡ 0 → Way (links_of_rows links rows) x x
-  pub queued : 0 < r → Queued (links_of_rows links rows) x (marks rows') (queue rows') r
-  pub grown : 0 < r → Grown x (marks rows) (queue rows) tail (marks rows') (queue rows') r
-  pub closed : 0 < r → Closed (ends links) x (marks rows') k
+  pub found : IfNone r (Way (links_of_rows links rows) x x)
+  pub queued : IfSome r (λ t. Queued (links_of_rows links rows) x (marks rows') (queue rows') t)
+  pub grown : IfSome r (λ t. Grown x (marks rows) (queue rows) tail (marks rows') (queue rows') t)
+  pub closed : IfSome r (λ t. Closed (ends links) x (marks rows') k)
 
 -- ---- the links from job v
 pub record WalkAsked (links : List (List ℕ)) (next : List ℕ) (v x tail : ℕ) (rows : List (List ℕ)) : Type 0 where
@@ -94,13 +94,13 @@ pub record WalkAsked (links : List (List ℕ)) (next : List ℕ) (v x tail : ℕ
   pub came : Came (links_of_rows links rows) x v
   pub queued : Queued (links_of_rows links rows) x (marks rows) (queue rows) tail
 
-pub record SearchWalked (links : List (List ℕ)) (v x tail : ℕ) (rows rows' : List (List ℕ)) (r : ℕ) : Type 0 where
+pub record SearchWalked (links : List (List ℕ)) (v x tail : ℕ) (rows rows' : List (List ℕ)) (r : Option ℕ) : Type 0 where
   pub long : length rows' ≡ length rows
   pub lists : heads rows' ≡ heads rows
-  pub found : r ≡ 0 → Way (links_of_rows links rows) x x
-  pub queued : 0 < r → Queued (links_of_rows links rows) x (marks rows') (queue rows') r
-  pub grown : 0 < r → Grown x (marks rows) (queue rows) tail (marks rows') (queue rows') r
-  pub closed : 0 < r → (e : ℕ) → e < length links → at (starts links) e ≡ v → Closed (ends links) x (marks rows') e
+  pub found : IfNone r (Way (links_of_rows links rows) x x)
+  pub queued : IfSome r (λ t. Queued (links_of_rows links rows) x (marks rows') (queue rows') t)
+  pub grown : IfSome r (λ t. Grown x (marks rows) (queue rows) tail (marks rows') (queue rows') t)
+  pub closed : IfSome r (λ t. (e : ℕ) → e < length links → at (starts links) e ≡ v → Closed (ends links) x (marks rows') e)
 
 -- those from link i on are done, and i is 1 + the next
 pub record SearchWalking (links : List (List ℕ)) (v x tail : ℕ) (rows rows' : List (List ℕ)) (i t : ℕ) : Type 0 where

@@ -1,6 +1,7 @@
 -- The verdict by its ways out: what is left of the chain of rules once those before are kept.
 use mathlib.Core.Path.{◌≡◌, refl, sym, ap, ◌∙◌, subst}
 use mathlib.Core.Bool.{Bool, true, false}
+use Rattle.std.specs.Prelude.{Some, None}
 use mathlib.Core.List.{List, [], ◌∷◌}
 use mathlib.Core.Logic.{◌⊎◌, inl, inr}
 use Prim.Native.Nat.{ℕ, zero, suc, ◌*◌, ◌/◌, ◌%◌, ◌<◌, ◌≤◌}
@@ -11,8 +12,8 @@ use borrow.Author.Tests.{eq-eqb, ne_eqb}
 use Rattle.vocabulary.specs.Test.{pick}
 use Rattle.vocabulary.proofs.Test.{clash}
 use Rattle.vocabulary.specs.First.{first_of, from}
-use Rattle.vocabulary.specs.Least.{least, some}
-use Rattle.vocabulary.proofs.Least.{least_is, some_yes, some_at, some_lt, some_ge, none}
+use Rattle.vocabulary.specs.Least.{least, some, lowest}
+use Rattle.vocabulary.proofs.Least.{least_is, some_yes, some_at, some_lt, some_ge, none, some_least, none_least}
 use Rattle.vocabulary.specs.Tally.{Fresh}
 use Rattle.kinds.specs.declared.Counts.{Counts}
 use Rattle.kinds.specs.Tasks.{Tasks, Patterns, Set, tasks_of, patterns_of}
@@ -72,20 +73,23 @@ module _ (f : Counts) (xs hs ps slots : List ℕ) (c : CountsFound (lent_set f x
     judged = rw (c.is_sound, ← c.ticks, eq-eqb (length slots) (f.processors * f.ticks) l)
 
 -- ---- 12
-module _ (u : Tasks) (v : Patterns) (p : Plan) (e : ℕ) (q : e ≡ least (high p.slots u.count) (length p.slots)) where
-  pub high_slot_lem : e < length p.slots → verdict.BadSlot e ≡ verdict_from 12 u v p
+module _ (u : Tasks) (v : Patterns) (p : Plan) where
+  pub high_slot_lem : {e : ℕ} → Some e ≡ lowest (high p.slots u.count) (length p.slots) → verdict.BadSlot e ≡ verdict_from 12 u v p
   unfolding verdict_from plan_rules from first_of high_at
-  high_slot_lem l = rw (some_lt (high p.slots u.count) (length p.slots) e q l, ← q)
+  high_slot_lem {e} found =
+      let w = some_least (high p.slots u.count) (length p.slots) e found in
+      rw (some_lt (high p.slots u.count) (length p.slots) e w.0 w.1, ← w.0)
 
-  none_high : length p.slots ≤ e → some (high p.slots u.count) (length p.slots) ≡ false
-  none_high l = some_ge (high p.slots u.count) (length p.slots) e q l
+  module _ (no : None ≡ lowest (high p.slots u.count) (length p.slots)) where
+    none_high : some (high p.slots u.count) (length p.slots) ≡ false
+    none_high = (none_least (high p.slots u.count) (length p.slots) no).1
 
-  pub low_slots : length p.slots ≤ e → verdict_from 20 u v p ≡ verdict_from 12 u v p
-  unfolding verdict_from plan_rules from first_of
-  low_slots l = rw (none_high l)
+    pub low_slots : verdict_from 20 u v p ≡ verdict_from 12 u v p
+    unfolding verdict_from plan_rules from first_of
+    low_slots = rw none_high
 
-  pub fit_slots : PlanNeeds u v p → length p.slots ≤ e → Fit u p
-  fit_slots a l = fit_needs u v p a (all_low p.slots u.count (none_high l))
+    pub fit_slots : PlanNeeds u v p → Fit u p
+    fit_slots a = fit_needs u v p a (all_low p.slots u.count none_high)
 
 -- ---- the table of jobs as it is made
 abbrev pub no_row : List ℕ

@@ -145,8 +145,7 @@ fn judge_tables<'a>(
     if slots.len() != f.processors as usize * f.ticks as usize {
         return Verdict::WrongLength;
     }
-    let e = slots::first_high(slots, f.tasks);
-    if e < slots.len() {
+    if let Some(e) = slots::first_high(slots, f.tasks) {
         return Verdict::BadSlot(e);
     }
     judge_slots(f, attributes, headings, pairs, slots)
@@ -200,14 +199,19 @@ pub fn evidence_of(v: Verdict, which: u32) -> usize
         Verdict::Accepted => 0,
         Verdict::BadSet => 0,
         Verdict::WrongLength => 0,
-        Verdict::BadSlot(e) => evidence::one_of(which, e),
-        Verdict::Twice(t, q, r) => evidence::three_of(which, t as usize, q as usize, r as usize),
-        Verdict::Outside(t, q) => evidence::two_of(which, t as usize, q as usize),
-        Verdict::WrongCount(i, k, c, a, b) => evidence::five_of(
-            which, i as usize, k as usize, c as usize, a as usize, b as usize,
+        Verdict::BadSlot(e) => evidence::number_at(which, &[e]),
+        Verdict::Twice(t, q, r) => evidence::number_at(
+            which,
+            &[t as usize, q as usize, r as usize],
         ),
-        Verdict::BrokenLink(k, q, n) => evidence::three_of(
-            which, k as usize, q as usize, n as usize,
+        Verdict::Outside(t, q) => evidence::number_at(which, &[t as usize, q as usize]),
+        Verdict::WrongCount(i, k, c, a, b) => evidence::number_at(
+            which,
+            &[i as usize, k as usize, c as usize, a as usize, b as usize],
+        ),
+        Verdict::BrokenLink(k, q, n) => evidence::number_at(
+            which,
+            &[k as usize, q as usize, n as usize],
         ),
     }
 }

@@ -1,4 +1,5 @@
 -- Rows that are cleared, and what the tests say of links that are lent.
+use Rattle.std.specs.Prelude.{Option, None}
 use mathlib.Core.Path.{◌≡◌, refl, sym, ap, ◌∙◌}
 use mathlib.Core.Bool.{Bool, true, false}
 use mathlib.Core.List.{List, []}
@@ -7,12 +8,11 @@ use Prim.Native.Nat.{ℕ, ◌≤◌, ◌<◌}
 use native.Mathlib.Omega.{arith}
 use borrow.Author.Tests.{lt-ltb, le-ltb, ltb-true, eq-eqb, ne_eqb, eqb-true, le-leb, lt-leb, leb-true}
 use lib.Dec.{eqb, leb, ltb}
-use lib.ListN.{length, get_or, get_or-eq_default}
+use lib.ListN.{length, get_or, get_or-eq_default, replicate, length-replicate, get_or-replicate}
 use Rattle.vocabulary.proofs.Test.{both, lt_or_le}
 use Rattle.vocabulary.proofs.Least.{all_at, all_from}
-use Rattle.vocabulary.specs.Table.{Filling}
 use Rattle.vocabulary.proofs.Table.{length_table, get_or_table, is_table, filled}
-use Rattle.graph.specs.Graph.{graph_of, lowest}
+use Rattle.graph.specs.Graph.{graph_of, lowest_job}
 use Rattle.graph.specs.Column.{column}
 use Rattle.graph.proofs.Column.{column_long, column_at}
 use Rattle.graph.specs.Pass.{at}
@@ -23,6 +23,9 @@ use Rattle.loops.specs.LentLinks.{inside, linked, roomy, lowest_in, no_lists, no
 -- ---- what is cleared
 pub rows_cleared : (rows rows' : List (List ℕ)) (i : ℕ) → Clearing rows rows' i → length rows' ≤ i → rows' ≡ no_rows (length rows)
 rows_cleared rows rows' i p l = is_table (λ x. no_row) (length rows) [] rows' p.long (λ x h. p.done x (omega (arith, p.long)))
+
+pub lists_cleared : (n : ℕ) (next : List ℕ) → next ≡ replicate n 0 → next ≡ no_lists n
+lists_cleared n next e = e ∙ is_table (λ x. 0) n 0 (replicate n 0) (length-replicate n 0) (λ i l. get_or-replicate n i 0 0 l)
 
 pub cleared : (rows rows' : List (List ℕ)) → rows' ≡ no_rows (length rows) → Cleared rows rows'
 cleared rows rows' e =
@@ -38,13 +41,6 @@ cleared rows rows' e =
         ∙ ap (λ (r : List ℕ). get_or r k 0) (get_or_table (λ y. no_row) (length rows) x [] h)
         ∙ z
     none k x z (inr h) = get_or-eq_default (column k rows') 0 (omega (arith, column_long k rows', long))
-
--- an entry is 0
-abbrev pub Nought : ℕ → ℕ → Type 0
-Nought k x = x ≡ 0
-
-pub lists_cleared : (n i : ℕ) (next : List ℕ) → Filling Nought n i 0 next → n ≤ i → next ≡ no_lists n
-lists_cleared n i next p l = is_table (λ x. 0) n 0 next p.long (filled Nought n i 0 next p l)
 
 -- ---- a link from job to job
 module _ (links : List (List ℕ)) (n k : ℕ) where
@@ -76,16 +72,16 @@ module _ (links lists jobs : ℕ) where
   jobs_decide e l b q = rw (eq-eqb lists links e, le-leb links 4096 l) q
 
 module _ (links : List (List ℕ)) (lists n : ℕ) where
-  pub no_room : roomy (length links) lists n ≡ false → n ≡ lowest_in links lists n
+  pub no_room : roomy (length links) lists n ≡ false → None ≡ lowest_in links lists n
   unfolding lowest_in
   no_room e = rw e
 
-  pub not_linked : roomy (length links) lists n ≡ true → linked links n ≡ false → n ≡ lowest_in links lists n
+  pub not_linked : roomy (length links) lists n ≡ true → linked links n ≡ false → None ≡ lowest_in links lists n
   unfolding lowest_in
   not_linked e f = rw (e, f)
 
   module _ (e : roomy (length links) lists n ≡ true) (f : linked links n ≡ true) where
-    pub lowest_in_lem : {x : ℕ} → x ≡ lowest (graph_of (starts links) (ends links) n) → x ≡ lowest_in links lists n
+    pub lowest_in_lem : {x : Option ℕ} → x ≡ lowest_job (graph_of (starts links) (ends links) n) → x ≡ lowest_in links lists n
     unfolding lowest_in
     lowest_in_lem p = p ∙ rw (e, f)
 
@@ -125,5 +121,5 @@ module _ (links : List (List ℕ)) (next : List ℕ) (rows : List (List ℕ)) (a
       (λ k l. is_inside links (length rows) k refl (omega (arith, column_at 0 links k, a.between.starts k (omega (arith, column_long 0 links)))) refl
       (omega (arith, column_at 1 links k, a.between.ends k (omega (arith, column_long 0 links)))))
 
-  pub lowest_of : lowest_in links (length next) (length rows) ≡ lowest (graph_of (starts links) (ends links) (length rows))
+  pub lowest_of : lowest_in links (length next) (length rows) ≡ lowest_job (graph_of (starts links) (ends links) (length rows))
   lowest_of = sym (lowest_in_lem links (length next) (length rows) has_room all_inside refl)

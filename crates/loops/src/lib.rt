@@ -3,34 +3,24 @@
 #![tactic(auto)]
 
 ghost use Rattle.std.specs.Prelude.{◌≡◌, true, false, ◌<◌, length};
-ghost use Rattle.graph.specs.Graph.{graph_of, lowest};
+ghost use Rattle.graph.specs.Graph.{graph_of, lowest_job};
 ghost use Rattle.graph.specs.JobRows.{starts, ends};
 ghost use Rattle.graph.specs.SearchRows.{SearchAsked, ThreadAsked, ThreadMade, VisitAsked, SearchVisited, WalkAsked, SearchWalked, StartAsked, Begun, LoopAsked, ProbeAsked, Probed, SeekAsked};
 ghost use Rattle.loops.specs.LentLinks.{linked, no_lists, no_rows, roomy, lowest_in};
 
 use kinds::{Cycle, TaskSet, wide};
 
-// A cast that hands out the number's bound, which an entry of a table comes without.
-fn place(x: u16) -> usize
-    ensures { (result ≡ x) × (result < 65536) }
-{
-    x as usize
-}
-
 // Every link leads from one of n jobs to one of them.
 fn all_linked(links: &[[u16; 2]], n: usize) -> bool
     ensures { result ≡ linked links.now n }
 {
-    let mut k: usize = 0;
-    while k < links.len() {
-        let l = links[k];
-        if n <= place(l[0]) {
+    for l in links {
+        if n <= usize::from(l[0]) {
             return false;
         }
-        if n <= place(l[1]) {
+        if n <= usize::from(l[1]) {
             return false;
         }
-        k += 1;
     }
     true
 }
@@ -38,21 +28,15 @@ fn all_linked(links: &[[u16; 2]], n: usize) -> bool
 fn clear(jobs: &mut [[u32; 3]])
     ensures { jobs.new ≡ no_rows (length jobs.old) }
 {
-    let mut i: usize = 0;
-    while i < jobs.len() {
+    for i in 0..jobs.len() {
         jobs[i] = [0, 0, 0];
-        i += 1;
     }
 }
 
 fn clear_lists(next: &mut [u16])
     ensures { next.new ≡ no_lists (length next.old) }
 {
-    let mut k: usize = 0;
-    while k < next.len() {
-        next[k] = 0;
-        k += 1;
-    }
+    next.fill(0);
 }
 
 // The links of each job as a list: from the last back to the first.
@@ -60,38 +44,42 @@ fn thread(links: &[[u16; 2]], next: &mut [u16], jobs: &mut [[u32; 3]])
     requires { ThreadAsked links.now next.old jobs.old }
     ensures { ThreadMade links.now next.new jobs.old jobs.new (length links.now) }
 {
-    let mut k: usize = 0;
-    while k < links.len() {
+    for k in 0..links.len() {
         let l = links[k];
-        let a = place(l[0]);
+        let a = usize::from(l[0]);
         let r = jobs[a];
         next[k] = r[0] as u16;
         jobs[a] = [(k + 1) as u32, r[1], r[2]];
-        k += 1;
     }
 }
 
-// Where link k leads, in the search from job x: 0 where that is x, else how long the queue is then. Jobs below x lie on no cycle.
-fn visit_job(links: &[[u16; 2]], k: usize, x: usize, tail: usize, jobs: &mut [[u32; 3]]) -> usize
+// Where link k leads, in the search from job x: none where that is x, else how long the queue is then. Jobs below x lie on no cycle.
+fn visit_job(
+    links: &[[u16; 2]],
+    k: usize,
+    x: usize,
+    tail: usize,
+    jobs: &mut [[u32; 3]],
+) -> Option<usize>
     requires { VisitAsked links.now k x tail jobs.old }
     ensures { SearchVisited links.now k x tail jobs.old jobs.new result }
 {
     let l = links[k];
-    let y = place(l[1]);
+    let y = usize::from(l[1]);
     if y == x {
-        return 0;
+        return None;
     }
     if y < x {
-        return tail;
+        return Some(tail);
     }
     let r = jobs[y];
     if wide(r[1]) == x + 1 {
-        return tail;
+        return Some(tail);
     }
     jobs[y] = [r[0], (x + 1) as u32, r[2]];
     let q = jobs[tail];
     jobs[tail] = [q[0], q[1], y as u32];
-    tail + 1
+    Some(tail + 1)
 }
 
 // The same for each link from job v.
@@ -102,7 +90,7 @@ fn walk(
     x: usize,
     tail: usize,
     jobs: &mut [[u32; 3]],
-) -> usize
+) -> Option<usize>
     requires { WalkAsked links.now next.now v x tail jobs.old }
     ensures { SearchWalked links.now v x tail jobs.old jobs.new result }
 {
@@ -110,13 +98,10 @@ fn walk(
     let mut i = wide(r[0]);
     let mut t = tail;
     while 0 < i {
-        t = visit_job(links, i - 1, x, t, jobs);
-        if t == 0 {
-            return 0;
-        }
-        i = place(next[i - 1]);
+        t = visit_job(links, i - 1, x, t, jobs)?;
+        i = usize::from(next[i - 1]);
     }
-    t
+    Some(t)
 }
 
 // Job x is marked and stands first in the queue.
@@ -139,10 +124,10 @@ fn probe(links: &[[u16; 2]], next: &[u16], x: usize, jobs: &mut [[u32; 3]]) -> b
     let mut at: usize = 0;
     while at < tail {
         let r = jobs[at];
-        tail = walk(links, next, wide(r[2]), x, tail, jobs);
-        if tail == 0 {
+        let Some(longer) = walk(links, next, wide(r[2]), x, tail, jobs) else {
             return true;
-        }
+        };
+        tail = longer;
         at += 1;
     }
     false
@@ -158,24 +143,22 @@ fn loops_at(links: &[[u16; 2]], next: &[u16], x: usize, jobs: &mut [[u32; 3]]) -
 }
 
 // Job after job, by the lists of links.
-fn seek(links: &[[u16; 2]], next: &[u16], jobs: &mut [[u32; 3]]) -> usize
+fn seek(links: &[[u16; 2]], next: &[u16], jobs: &mut [[u32; 3]]) -> Option<usize>
     requires { SeekAsked links.now next.now jobs.old }
-    ensures { result ≡ lowest (graph_of (starts links.now) (ends links.now) (length jobs.old)) }
+    ensures { result ≡ lowest_job (graph_of (starts links.now) (ends links.now) (length jobs.old)) }
 {
-    let mut x: usize = 0;
-    while x < jobs.len() {
+    for x in 0..jobs.len() {
         if loops_at(links, next, x, jobs) {
-            return x;
+            return Some(x);
         }
-        x += 1;
     }
-    x
+    None
 }
 
 // The search by lists of its own, in the rows that are lent.
-fn seek_lowest(links: &[[u16; 2]], next: &mut [u16], jobs: &mut [[u32; 3]]) -> usize
+fn seek_lowest(links: &[[u16; 2]], next: &mut [u16], jobs: &mut [[u32; 3]]) -> Option<usize>
     requires { SearchAsked links.now next.old jobs.old }
-    ensures { result ≡ lowest (graph_of (starts links.now) (ends links.now) (length jobs.old)) }
+    ensures { result ≡ lowest_job (graph_of (starts links.now) (ends links.now) (length jobs.old)) }
 {
     clear(jobs);
     thread(links, next, jobs);
@@ -196,20 +179,20 @@ fn has_room(links: usize, next: usize, jobs: usize) -> bool
 }
 
 // The same where links lead from job to job; else there is none on a cycle.
-fn find(links: &[[u16; 2]], next: &mut [u16], jobs: &mut [[u32; 3]]) -> usize
+fn find(links: &[[u16; 2]], next: &mut [u16], jobs: &mut [[u32; 3]]) -> Option<usize>
     ensures { result ≡ lowest_in links.now (length next.old) (length jobs.old) }
 {
     if !has_room(links.len(), next.len(), jobs.len()) {
-        return jobs.len();
+        return None;
     }
     if !all_linked(links, jobs.len()) {
-        return jobs.len();
+        return None;
     }
     seek_lowest(links, next, jobs)
 }
 
-// The lowest job that lies on a cycle, the number of jobs where none does. What is lent to search in is left cleared.
-pub fn lowest_on_cycle(links: &[[u16; 2]], next: &mut [u16], jobs: &mut [[u32; 3]]) -> usize
+// The lowest job that lies on a cycle. What is lent to search in is left cleared.
+pub fn lowest_on_cycle(links: &[[u16; 2]], next: &mut [u16], jobs: &mut [[u32; 3]]) -> Option<usize>
     ensures { (result ≡ lowest_in links.now (length next.old) (length jobs.old))
         × (next.new ≡ no_lists (length next.old)) × (jobs.new ≡ no_rows (length jobs.old)) }
 {

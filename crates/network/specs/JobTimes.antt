@@ -1,5 +1,5 @@
 -- The times of a cycle's jobs in a row: own ones, written task by task, and the adjusted ones that rounds leave of them.
-use Rattle.std.specs.Prelude.{◌≡◌, refl, Bool, true, false, ◌&&◌, List, [], ◌∷◌, ◌⊎◌, ℕ, suc, ◌+◌, ◌-◌, ◌*◌, ◌/◌, ◌≤◌, ◌<◌, eqb, ltb, ℤ, pos, get_or, set}
+use Rattle.std.specs.Prelude.{◌≡◌, refl, Bool, true, false, ◌&&◌, List, [], ◌∷◌, ◌⊎◌, ℕ, suc, ◌+◌, ◌-◌, ◌*◌, ◌/◌, ◌≤◌, ◌<◌, eqb, ltb, ℤ, pos, get_or, set, Option, Some, None}
 use Rattle.std.proofs.Common.{sym, ◌∙◌, inl, inr, div-add-mod', mul-le-mul, le_refl, add-one, arith, eq-eqb, ne_eqb}
 use Rattle.std.proofs.Math.Path.{ap}
 use Rattle.std.proofs.Math.IntN.{sub_ℕ}
@@ -10,7 +10,7 @@ use Rattle.vocabulary.specs.Least.{least}
 use Rattle.vocabulary.proofs.Total.{total_none}
 use Rattle.vocabulary.specs.Table.{table}
 use Rattle.vocabulary.proofs.Table.{is_table, length_table, get_or_table}
-use Rattle.graph.specs.Graph.{Graph, graph_of, lowest, loops}
+use Rattle.graph.specs.Graph.{Graph, graph_of, lowest, lowest_job, loops}
 use Rattle.graph.specs.Reach.{Free}
 use Rattle.graph.specs.Longest.{rounds}
 use Rattle.graph.specs.Soonest.{soonest}
@@ -24,7 +24,7 @@ use Rattle.graph.specs.JobRows.{starts, ends, Ready, Rounds}
 use Rattle.graph.specs.SearchRows.{SearchAsked}
 use Rattle.graph.specs.Listed.{Weighted}
 use Rattle.graph.proofs.Listed.{settled_rounds, settled_soonest}
-use Rattle.vocabulary.proofs.Least.{least_is}
+use Rattle.vocabulary.proofs.Least.{some_least, none_least, some_not}
 use Rattle.loops.specs.LentLinks.{lowest_in}
 use Rattle.loops.proofs.LentLaws.{lowest_of}
 use Rattle.kinds.specs.declared.Task.{Task}
@@ -371,27 +371,31 @@ module _ (u : Tasks) (h : ℕ) (links : List (List ℕ)) (next : List ℕ) (rows
       let e = q.sized in
       record { between = rw e a.rounds.between; long = a.long; few_links = a.few_links; few_jobs = omega (arith, a.rounds.own.fit.few_jobs) }
 
-  module _ (rows'' : List (List ℕ)) (sized : length rows'' ≡ length rows') {x : ℕ} (ex : x ≡ lowest_in links (length next) (length rows')) where
-    lowest_is : x ≡ lowest (graph_of (starts links) (ends links) (jobs u))
-    lowest_is = ex ∙ lowest_of links next rows' search_asked ∙ ap (λ (n : ℕ). lowest (graph_of (starts links) (ends links) n)) q.sized
+  module _ (rows'' : List (List ℕ)) (sized : length rows'' ≡ length rows') where
+    lowest_is : {x : Option ℕ} → x ≡ lowest_in links (length next) (length rows') → x ≡ lowest_job (graph_of (starts links) (ends links) (jobs u))
+    lowest_is ex = ex ∙ lowest_of links next rows' search_asked ∙ ap (λ (n : ℕ). lowest_job (graph_of (starts links) (ends links) n)) q.sized
 
-    pub solved_cycle : x < length rows'' → Solved u links rows'' x
-    solved_cycle l = record { sized = sized ∙ q.sized; answer = lowest_is; times = λ m. absurd (omega (arith, sized, q.sized)) }
+    pub solved_cycle : {x : ℕ} → Some x ≡ lowest_in links (length next) (length rows') → Solved u links rows'' x
+    unfolding lowest lowest_job
+    solved_cycle {x} ex =
+        let g : Graph = graph_of (starts links) (ends links) (jobs u) in
+        let w = some_least (loops g) (jobs u) x (lowest_is ex) in
+        record { sized = sized ∙ q.sized; answer = w.0; times = λ m. absurd (omega (arith, w.1)) }
 
     pub rounds_asked : RoundsAsked u h links rows''
     rounds_asked = record { own = record { fit = a.rounds.own.fit; sized = sized ∙ q.sized }; between = a.rounds.between }
 
-    pub solved_late : length rows'' ≤ x → (rows''' : List (List ℕ)) (b : Bool) → Adjusts u links rows'' rows''' (length rows'') b → Solved u links rows''' (length rows'')
-    unfolding lowest
-    solved_late l rows''' b p =
+    pub solved_late : None ≡ lowest_in links (length next) (length rows') → (rows''' : List (List ℕ)) (b : Bool)
+        → Adjusts u links rows'' rows''' (length rows'') b → Solved u links rows''' (length rows'')
+    unfolding lowest lowest_job
+    solved_late ex rows''' b p =
         let n : length rows'' ≡ jobs u = sized ∙ q.sized in
         let g : Graph = graph_of (starts links) (ends links) (jobs u) in
-        let w = least_is (loops g) (jobs u) in
-        let all : jobs u ≡ lowest g = omega (arith, lowest_is, w.within) in
+        let w = none_least (loops g) (jobs u) (lowest_is ex) in
         record {
           sized = p.sized;
-          answer = n ∙ all;
-          times = λ m. p.enough n (λ y ly. w.before y (omega (arith, all)));
+          answer = n ∙ sym w.0;
+          times = λ m. p.enough n (some_not (loops g) (jobs u) w.1);
         }
 
 -- ---- 15

@@ -95,11 +95,10 @@ fn solve(
     if adjust_soon(f, attributes, links, jobs) {
         return jobs.len();
     }
-    let x = lowest_on_cycle(links, next, jobs);
-    let n = jobs.len();
-    if x < n {
+    if let Some(x) = lowest_on_cycle(links, next, jobs) {
         return x;
     }
+    let n = jobs.len();
     adjust_rows(f, attributes, links, jobs, n);
     n
 }

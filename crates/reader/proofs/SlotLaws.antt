@@ -1,4 +1,5 @@
 -- Slots by the first that is too high, in place of one after another.
+use Rattle.std.specs.Prelude.{Option, Some, None}
 use mathlib.Core.Path.{◌≡◌, sym, ap, ◌∙◌}
 use mathlib.Core.Bool.{true, false}
 use mathlib.Core.List.{List}
@@ -8,8 +9,9 @@ use borrow.Author.Tests.{lt-leb, lt-ltb, le-leb, le-ltb}
 use lib.Dec.{ltb}
 use lib.ListN.{length, take, drop}
 use Rattle.std.specs.Prelude.{Ok, Err}
-use Rattle.vocabulary.specs.Least.{least, Least}
-use Rattle.vocabulary.proofs.Least.{least_is, least_same}
+use Rattle.vocabulary.specs.Test.{pick}
+use Rattle.vocabulary.specs.Least.{least, Least, some, lowest}
+use Rattle.vocabulary.proofs.Least.{least_is, least_same, some_same, some_not, some_least, none_least}
 use Rattle.vocabulary.proofs.Prefix.{part_length, part_entry}
 use Rattle.slots.specs.High.{high}
 use Rattle.numbers.specs.declared.Refusal.TheVariants as refusal
@@ -43,41 +45,42 @@ over s n (suc j) (suc k) at l room low =
 over s n (suc j) zero at l room low = absurd (omega arith)
 
 -- ---- the first slot that is too high, in the part of the file that the slots take
-pub high_in_part : (s : List ℕ) (at there n : ℕ) {e : ℕ} → at + there ≤ length s
-    → e ≡ least (high (take (at + there - at) (drop at s)) n) (length (take (at + there - at) (drop at s))) → e ≡ least (high_from s n at) there
-unfolding high
+pub high_in_part : (s : List ℕ) (at there n : ℕ) {e : Option ℕ} → at + there ≤ length s
+    → e ≡ lowest (high (take (at + there - at) (drop at s)) n) (length (take (at + there - at) (drop at s))) → e ≡ lowest (high_from s n at) there
+unfolding high lowest
 high_in_part s at there n room e-is =
     let part : List ℕ = take there (drop at s) in
     let same : at + there - at ≡ there = omega arith in
+    let alike : (i : ℕ) → i < there → high part n i ≡ high_from s n at i = λ i l. ap (ltb n) (part_entry 0 s at there i l) in
     rw same at e-is
-    ∙ ap (least (high part n)) (part_length s at there room)
-    ∙ least_same (high part n) (high_from s n at) there (λ i l. ap (ltb n) (part_entry 0 s at there i l))
+    ∙ ap (lowest (high part n)) (part_length s at there room)
+    ∙ rw (some_same (high part n) (high_from s n at) there alike, least_same (high part n) (high_from s n at) there alike)
 
-module _ (s : List ℕ) (k at n : ℕ) {there e : ℕ} (there-is : there ≡ min k (length s - at)) (e-is : e ≡ least (high_from s n at) there) where
-  first : Least (high_from s n at) there e
-  first = rw e-is (least_is (high_from s n at) there)
+-- ---- what the slots answer
+module _ (s : List ℕ) (k at n : ℕ) {there : ℕ} (there-is : there ≡ min k (length s - at)) where
+  pub slots_high : {e : ℕ} → Some e ≡ lowest (high_from s n at) there → Err (refusal.BadSlot (at + e)) ≡ slots_from s k at n
+  slots_high {e} found =
+      let w = some_least (high_from s n at) there e found in
+      let first : Least (high_from s n at) there e = rw w.0 (least_is (high_from s n at) there) in
+      let z : k - e ≡ suc (k - (e + 1)) = omega (arith, w.1) in
+      sym (over s n e k at (omega (arith, w.1)) (omega (arith, w.1)) first.before ∙ rw z (slot_high s (k - (e + 1)) (at + e) n (omega (arith, w.1)) w.2))
 
-  -- ---- what the slots answer
-  pub slots_high : e < there → Err (refusal.BadSlot (at + e)) ≡ slots_from s k at n
-  slots_high l =
-      let z : k - e ≡ suc (k - (e + 1)) = omega arith in
-      sym (over s n e k at (omega arith) (omega arith) first.before ∙ rw z (slot_high s (k - (e + 1)) (at + e) n (omega arith) (first.found l)))
+  module _ (none : None ≡ lowest (high_from s n at) there) where
+    to_end : slots_from s k at n ≡ slots_from s (k - there) (at + there) n
+    to_end = over s n there k at (omega arith) (omega arith) (some_not (high_from s n at) there (none_least (high_from s n at) there none).1)
 
-  to_end : there ≤ e → slots_from s k at n ≡ slots_from s (k - there) (at + there) n
-  to_end h = over s n there k at (omega arith) (omega arith) (λ i l. first.before i (omega arith))
+    pub slots_ended : there < k → Err (refusal.Ends (length s)) ≡ slots_from s k at n
+    slots_ended l =
+        let z : k - there ≡ suc (k - (there + 1)) = omega arith in
+        sym (to_end ∙ rw z (slot_missing s (k - (there + 1)) (at + there) n (omega arith)))
 
-  pub slots_ended : there ≤ e → there < k → Err (refusal.Ends (length s)) ≡ slots_from s k at n
-  slots_ended h l =
-      let z : k - there ≡ suc (k - (there + 1)) = omega arith in
-      sym (to_end h ∙ rw z (slot_missing s (k - (there + 1)) (at + there) n (omega arith)))
+    all_there : k ≤ there → slots_from s k at n ≡ slots_from s 0 (at + there) n
+    all_there l = let z : k - there ≡ 0 = omega arith in to_end ∙ rw z
 
-  all_there : there ≤ e → k ≤ there → slots_from s k at n ≡ slots_from s 0 (at + there) n
-  all_there h l = let z : k - there ≡ 0 = omega arith in to_end h ∙ rw z
+    pub slots_left : k ≤ there → at + there < length s → Err (refusal.LeftOver (at + there)) ≡ slots_from s k at n
+    unfolding slots_from
+    slots_left l g = sym (all_there l ∙ rw (lt-ltb (at + there) (length s) g))
 
-  pub slots_left : there ≤ e → k ≤ there → at + there < length s → Err (refusal.LeftOver (at + there)) ≡ slots_from s k at n
-  unfolding slots_from
-  slots_left h l g = sym (all_there h l ∙ rw (lt-ltb (at + there) (length s) g))
-
-  pub slots_all : there ≤ e → k ≤ there → length s ≤ at + there → Ok (at + there) ≡ slots_from s k at n
-  unfolding slots_from
-  slots_all h l g = sym (all_there h l ∙ rw (le-ltb (at + there) (length s) g))
+    pub slots_all : k ≤ there → length s ≤ at + there → Ok (at + there) ≡ slots_from s k at n
+    unfolding slots_from
+    slots_all l g = sym (all_there l ∙ rw (le-ltb (at + there) (length s) g))

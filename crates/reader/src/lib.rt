@@ -2,7 +2,7 @@
 #![tactic(auto)]
 
 ghost use Rattle.std.specs.Prelude.{◌≡◌, true, ◌*◌, ◌-◌, ◌≤◌, min, length, get_or};
-ghost use Rattle.vocabulary.specs.Least.{least};
+ghost use Rattle.vocabulary.specs.Least.{lowest};
 ghost use Rattle.numbers.specs.Answers.{refusal_number, refusal_evidence};
 ghost use Rattle.reader.specs.Answers.{number_of, evidence_of};
 ghost use Rattle.reader.specs.HighSlots.{high_from};
@@ -33,13 +33,13 @@ fn slots_present(length: usize, start: usize, k: u64) -> usize
     rest
 }
 
-// The lowest of the slots from a place on that is above n, by how many come before it, or how many there are.
-fn high_slot(file: &[u8], start: usize, there: usize, n: usize) -> usize
+// The lowest of the slots from a place on that is above n, by how many come before it.
+fn high_slot(file: &[u8], start: usize, there: usize, n: usize) -> Option<usize>
     requires { there ≤ length file.now - start }
-    ensures { result ≡ least (high_from file.now n start) there }
+    ensures { result ≡ lowest (high_from file.now n start) there }
 {
     if there == 0 {
-        return 0;
+        return None;
     }
     slots::first_high(&file[start..start + there], n)
 }
@@ -49,8 +49,7 @@ fn read_slots(file: &[u8], start: usize, k: u64, n: usize) -> Result<usize, Refu
     ensures { result ≡ slots_from file.now k start n }
 {
     let there = slots_present(file.len(), start, k);
-    let high = high_slot(file, start, there, n);
-    if high < there {
+    if let Some(high) = high_slot(file, start, there, n) {
         return Err(Refusal::BadSlot(start + high));
     }
     if (there as u64) < k {

@@ -168,9 +168,9 @@ pub fn evidence_of(f: Finding, which: u32) -> usize
     match f {
         Finding::Nothing => 0,
         Finding::BadSet => 0,
-        Finding::Cycle(i, k) => evidence::two_of(which, i as usize, k as usize),
-        Finding::Overload(a, b) => evidence::two_of(which, a as usize, b as usize),
-        Finding::TooTight(i, k) => evidence::two_of(which, i as usize, k as usize),
+        Finding::Cycle(i, k) => evidence::number_at(which, &[i as usize, k as usize]),
+        Finding::Overload(a, b) => evidence::number_at(which, &[a as usize, b as usize]),
+        Finding::TooTight(i, k) => evidence::number_at(which, &[i as usize, k as usize]),
     }
 }
 
@@ -182,6 +182,6 @@ pub fn adjusted_evidence_of(a: Adjusted, which: u32) -> usize
         Adjusted::Written => 0,
         Adjusted::BadSet => 0,
         Adjusted::WrongLength => 0,
-        Adjusted::Cycle(i, k) => evidence::two_of(which, i as usize, k as usize),
+        Adjusted::Cycle(i, k) => evidence::number_at(which, &[i as usize, k as usize]),
     }
 }

@@ -1,45 +1,41 @@
 -- Rule 12 by one bound of all slots.
-use mathlib.Core.Path.{◌≡◌, refl}
-use mathlib.Core.Bool.{true, false}
-use mathlib.Core.List.{List, [], ◌∷◌}
-use mathlib.Core.Logic.{⊎_elim}
-use Prim.Native.Nat.{ℕ, zero, suc, ◌+◌, ◌<◌, ◌≤◌}
-use native.Mathlib.Nat.{eq-or-lt_of_le}
-use native.Mathlib.Omega.{arith}
-use lib.ListN.{get_or, length}
-use borrow.Author.Tests.{le-ltb, lt-ltb, ltb-false}
+use Rattle.std.specs.Prelude.{◌≡◌, refl, Bool, true, false, cond, not, List, [], ◌∷◌, ℕ, zero, suc, ◌≤◌, ltb, get_or, length, position, Some, None}
+use Rattle.std.specs.List.{position_or_len}
+use Rattle.std.proofs.Common.{⊎_elim, arith, le-ltb, ltb-false}
+use Rattle.std.proofs.lemmas.Bool.{not-true, not-false}
+use Rattle.std.proofs.lemmas.List.Sums.{prefix_len_passes, prefix_len_stops, prefix_len-le-length}
+use Rattle.vocabulary.specs.Test.{pick}
 use Rattle.vocabulary.proofs.Test.{lt_or_le}
-use Rattle.vocabulary.specs.Least.{least, some}
-use Rattle.vocabulary.proofs.Least.{some_not, least_only}
+use Rattle.vocabulary.specs.Least.{least, some, lowest}
+use Rattle.vocabulary.proofs.Least.{some_not, least_only, nowhere}
 use Rattle.slots.specs.High.{high}
 use Rattle.slots.specs.Topped.{Topped}
 
-pub top_from : (slots : List ℕ) → Topped slots 0 0
-top_from slots = record { within = omega arith; each = λ k l. absurd (omega arith) }
-
-pub top_on : (slots : List ℕ) (e r r' : ℕ) → Topped slots e r → e < length slots → (r ≤ r') × (get_or slots e 0 ≤ r') → Topped slots (e + 1) r'
-top_on slots e r r' t l w =
-    record {
-      within = omega arith;
-      each = λ k h. ⊎_elim (λ q. rw q w.1) (λ q. omega (arith, t.each k q, w.0)) (eq-or-lt_of_le (let g : k ≤ e = omega arith in g));
-    }
-
-pub top_end : (slots : List ℕ) (e r : ℕ) → Topped slots e r → length slots ≤ e → Topped slots (length slots) r
-top_end slots e r t l = record { within = omega arith; each = λ k h. t.each k (omega arith) }
-
-pub none_high : (slots : List ℕ) (n r : ℕ) → Topped slots (length slots) r → r ≤ n → length slots ≡ least (high slots n) (length slots)
+-- Where a bound of all slots is at most n, none is high.
+pub none_high : (slots : List ℕ) (n r : ℕ) → Topped slots (length slots) r → r ≤ n → None ≡ lowest (high slots n) (length slots)
 unfolding high
 none_high slots n r t l =
-    least_only (high slots n) (length slots) (length slots)
-    (record { within = omega arith; before = λ k h. le-ltb n (get_or slots k 0) (omega (arith, t.each k h)); found = λ h. absurd (omega arith) })
+    nowhere (high slots n) (length slots) (length slots)
+    (record { within = omega arith; before = λ k h. le-ltb n (get_or slots k 0) (omega (arith, t.each k h)) }) (omega arith)
 
-pub high_yes : (slots : List ℕ) (n e : ℕ) → n < get_or slots e 0 → high slots n e ≡ true
+-- The place that a search from the first slot on gives.
+place_high : (slots : List ℕ) (n : ℕ) → position_or_len (λ v. ltb n v) slots ≡ least (high slots n) (length slots)
 unfolding high
-high_yes slots n e l = lt-ltb n (get_or slots e 0) l
+place_high slots n =
+    least_only (high slots n) (length slots) (position_or_len (λ v. ltb n v) slots)
+    (record {
+      within = prefix_len-le-length (λ v. not (ltb n v)) slots;
+      before = λ k h. not-true _ (prefix_len_passes (λ v. not (ltb n v)) slots k 0 h);
+      found = λ h. not-false _ (prefix_len_stops (λ v. not (ltb n v)) slots 0 h);
+    })
 
-pub high_no : (slots : List ℕ) (n e : ℕ) → get_or slots e 0 ≤ n → high slots n e ≡ false
-unfolding high
-high_no slots n e l = le-ltb n (get_or slots e 0) l
+pub position_high : (slots : List ℕ) (n : ℕ) → position (λ v. ltb n v) slots ≡ lowest (high slots n) (length slots)
+unfolding lowest
+position_high slots n = rw (← place_high slots n) (by (ltb (position_or_len (λ v. ltb n v) slots) (length slots)))
+  where
+    by : (b : Bool) → cond b (Some (position_or_len (λ v. ltb n v) slots)) None ≡ pick b (Some (position_or_len (λ v. ltb n v) slots)) None
+    by true = refl
+    by false = refl
 
 beyond : (xs : List ℕ) (i : ℕ) → length xs ≤ i → get_or xs i 0 ≡ 0
 beyond [] i l = refl

@@ -2,6 +2,7 @@
 use mathlib.Core.Path.{◌≡◌, refl, sym, ap, ◌∙◌}
 use mathlib.Core.Bool.{true, false, not}
 use mathlib.Core.List.{List, ◌++◌}
+use Rattle.std.specs.Prelude.{Some, None}
 use Prim.Native.Nat.{ℕ, ◌+◌, ◌*◌, ◌<◌, ◌≤◌}
 use native.Mathlib.Omega.{arith}
 use native.Mathlib.Nat.{mul-le-mul}
@@ -11,8 +12,8 @@ use lib.Dec.{eqb, ltb}
 use borrow.Author.Tests.{eq-eqb, ne_eqb, lt-ltb, le-ltb, ltb-false, eqb-true, not-false}
 use Rattle.vocabulary.proofs.Test.{missed}
 use Rattle.vocabulary.specs.First.{first_of}
-use Rattle.vocabulary.specs.Least.{least, some}
-use Rattle.vocabulary.proofs.Least.{some_lt, some_ge}
+use Rattle.vocabulary.specs.Least.{some, lowest}
+use Rattle.vocabulary.proofs.Least.{some_lt, some_least, none_least}
 use Rattle.kinds.specs.declared.Counts.{Counts}
 use Rattle.kinds.specs.Tasks.{Set, view}
 use Rattle.kinds.specs.Build.{lent_set}
@@ -55,19 +56,20 @@ module _ (f : Counts) (xs hs ps slots : List ℕ) (room : ℕ) (c : CountsFound 
   unfolding written_of rules first_of
   other_length n = rw (c.is_sound, ← c.ticks, ne_eqb (length slots) (f.processors * f.ticks) n)
 
-  module _ (long : length slots ≡ f.processors * f.ticks) {e : ℕ} (e-is : e ≡ least (high slots f.tasks) (length slots)) where
-    pub high_slot_lem : e < length slots → written.BadSlot e ≡ written_of s slots room
+  module _ (long : length slots ≡ f.processors * f.ticks) where
+    pub high_slot_lem : {e : ℕ} → Some e ≡ lowest (high slots f.tasks) (length slots) → written.BadSlot e ≡ written_of s slots room
     unfolding written_of rules first_of
-    high_slot_lem l =
+    high_slot_lem {e} found =
+        let w = some_least (high slots f.tasks) (length slots) e found in
         rw (
           c.is_sound,
           ← c.ticks,
           eq-eqb (length slots) (f.processors * f.ticks) long,
-          some_lt (high slots f.tasks) (length slots) e e-is l,
-          ← e-is,
+          some_lt (high slots f.tasks) (length slots) e w.0 w.1,
+          ← w.0,
         )
 
-    module _ (none : length slots ≤ e) {h : ℕ} (h_is : h ≡ length (head_bytes s)) where
+    module _ (none : None ≡ lowest (high slots f.tasks) (length slots)) {h : ℕ} (h_is : h ≡ length (head_bytes s)) where
       abbrev n : ℕ
       n = h + length slots
 
@@ -82,7 +84,7 @@ module _ (f : Counts) (xs hs ps slots : List ℕ) (room : ℕ) (c : CountsFound 
             c.is_sound,
             ← c.ticks,
             eq-eqb (length slots) (f.processors * f.ticks) long,
-            some_ge (high slots f.tasks) (length slots) e e-is none,
+            (none_least (high slots f.tasks) (length slots) none).1,
             file_long,
             lt-ltb room n l,
           )
@@ -94,7 +96,7 @@ module _ (f : Counts) (xs hs ps slots : List ℕ) (room : ℕ) (c : CountsFound 
             c.is_sound,
             ← c.ticks,
             eq-eqb (length slots) (f.processors * f.ticks) long,
-            some_ge (high slots f.tasks) (length slots) e e-is none,
+            (none_least (high slots f.tasks) (length slots) none).1,
             file_long,
             le-ltb room n l,
           )

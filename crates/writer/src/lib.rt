@@ -41,8 +41,7 @@ fn answer<'a>(
     if plan.len() != f.processors as usize * f.ticks as usize {
         return Written::WrongLength;
     }
-    let e = slots::first_high(plan, f.tasks);
-    if e < plan.len() {
+    if let Some(e) = slots::first_high(plan, f.tasks) {
         return Written::BadSlot(e);
     }
     let length = lengths::head_length(f, attributes, headings, pairs) + plan.len();
@@ -131,10 +130,10 @@ pub fn evidence_of(w: Written, which: u32) -> usize
     ensures { result ≡ get_or (evidence_of w) which 0 }
 {
     match w {
-        Written::Length(n) => evidence::one_of(which, n),
+        Written::Length(n) => evidence::number_at(which, &[n]),
         Written::BadSet => 0,
         Written::WrongLength => 0,
-        Written::BadSlot(e) => evidence::one_of(which, e),
+        Written::BadSlot(e) => evidence::number_at(which, &[e]),
         Written::TooShort => 0,
     }
 }

@@ -10,12 +10,12 @@ overflow_mul-f c = omega (arith, few_places _ _ _ _ [] c.requires)
 pub returns-then-slots-f : goal.returns-then-slots-f
 returns-then-slots-f c = other_length _ _ _ _ _ c.requires c.if-slots-f.true
 
-pub returns-then-e-slots : goal.returns-then-e-slots
-returns-then-e-slots c = high_slot_lem _ _ _ _ c.first_high-e.ensures c.if-e-slots.true ∙ judged _ _ _ _ _ c.requires c.if-slots-f.false
+pub returns-in-Some : goal.returns-in-Some
+returns-in-Some c = high_slot_lem _ _ _ c.in-Some.ensures ∙ judged _ _ _ _ _ c.requires c.if-slots-f.false
 
 pub judge_slots-requires : goal.judge_slots-requires
 judge_slots-requires c = let a = plan_needs _ _ _ _ _ c.requires c.if-slots-f.false in
-    (a, fit_slots _ _ _ _ c.first_high-e.ensures a c.if-e-slots.false, c.requires.jobs)
+    (a, fit_slots _ _ _ c.in_default.ensures a, c.requires.jobs)
 
 pub returns : goal.returns
-returns c = c.judge_slots.ensures ∙ low_slots _ _ _ _ c.first_high-e.ensures c.if-e-slots.false ∙ judged _ _ _ _ _ c.requires c.if-slots-f.false
+returns c = c.judge_slots.ensures ∙ low_slots _ _ _ c.in_default.ensures ∙ judged _ _ _ _ _ c.requires c.if-slots-f.false

@@ -13,14 +13,14 @@ offset_bounds-jobs-at c = omega (arith, c.requires.few_jobs, probe_low _ _ _ _ c
 pub slice_copy_out-r : goal.slice_copy_out-r
 slice_copy_out-r c = probe_place _ _ _ _ c.requires _ _ _ c.loop-at.invariant c.loop-at-test.true
 
-pub walk-tail-requires : goal.walk-tail-requires
-walk-tail-requires c = probe_asks _ _ _ _ c.requires _ _ _ c.loop-at.invariant c.loop-at-test.true c.wide.ensures.0
+pub walk-requires : goal.walk-requires
+walk-requires c = probe_asks _ _ _ _ c.requires _ _ _ c.loop-at.invariant c.loop-at-test.true c.wide.ensures.0
 
-pub shape_of-jobs-then-tail-eq0 : goal.shape_of-jobs-then-tail-eq0
-shape_of-jobs-then-tail-eq0 c = c.walk-tail.ensures.long ∙ c.loop-at.invariant.long
+pub shape_of-jobs-in_default : goal.shape_of-jobs-in_default
+shape_of-jobs-in_default c = c.in_default.ensures.long ∙ c.loop-at.invariant.long
 
-pub returns-then-tail-eq0 : goal.returns-then-tail-eq0
-returns-then-tail-eq0 c = probe_found _ _ _ _ c.requires _ _ _ c.loop-at.invariant c.loop-at-test.true c.wide.ensures.0 _ _ c.walk-tail.ensures c.if-tail-eq0.true
+pub returns-in_default : goal.returns-in_default
+returns-in_default c = probe_found _ _ _ _ c.requires _ _ _ c.loop-at.invariant c.loop-at-test.true c.wide.ensures.0 _ c.in_default.ensures
 
 pub overflow_add-at : goal.overflow_add-at
 overflow_add-at c = omega (arith, c.requires.few_jobs, probe_low _ _ _ _ c.requires _ _ _ c.loop-at.invariant c.loop-at-test.true, c.loop-at-test.true)
@@ -29,7 +29,7 @@ pub loop-at-smaller : goal.loop-at-smaller
 loop-at-smaller c = omega (arith, probe_low _ _ _ _ c.requires _ _ _ c.loop-at.invariant c.loop-at-test.true, c.loop-at-test.true)
 
 pub loop-at-preserved : goal.loop-at-preserved
-loop-at-preserved c = probe_on _ _ _ _ c.requires _ _ _ c.loop-at.invariant c.loop-at-test.true c.wide.ensures.0 _ _ c.walk-tail.ensures c.if-tail-eq0.false
+loop-at-preserved c = probe_on _ _ _ _ c.requires _ _ _ c.loop-at.invariant c.loop-at-test.true c.wide.ensures.0 _ c.in-Some.ensures
 
 pub shape_of-jobs : goal.shape_of-jobs
 shape_of-jobs c = c.loop-at.invariant.long

@@ -7,20 +7,14 @@ use Rattle.loops.proofs.walk.Goals as goal
 pub loop-i-init : goal.loop-i-init
 loop-i-init c = walk_from_lem _ _ _ _ _ _ c.requires c.wide-i.ensures.0
 
-pub visit_job-t-requires : goal.visit_job-t-requires
-visit_job-t-requires c = walk_asks _ _ _ _ _ _ c.requires _ _ _ c.loop-i.invariant c.loop-i-test.true
-
-pub returns-then-t-eq0 : goal.returns-then-t-eq0
-returns-then-t-eq0 c = walk_found _ _ _ _ _ _ c.requires _ _ _ c.loop-i.invariant c.loop-i-test.true _ _ c.visit_job-t.ensures c.if-t-eq0.true
+pub visit_job-requires : goal.visit_job-requires
+visit_job-requires c = walk_asks _ _ _ _ _ _ c.requires _ _ _ c.loop-i.invariant c.loop-i-test.true
 
 pub bounds-next-i : goal.bounds-next-i
 bounds-next-i c = walk_next _ _ _ _ _ _ c.requires _ _ _ c.loop-i.invariant c.loop-i-test.true
 
 pub loop-i-smaller : goal.loop-i-smaller
-loop-i-smaller c = walk_less _ _ _ _ _ _ c.requires _ _ _ c.loop-i.invariant c.loop-i-test.true c.place-i.ensures.0
-
-pub loop-i-preserved : goal.loop-i-preserved
-loop-i-preserved c = walk_on _ _ _ _ _ _ c.requires _ _ _ c.loop-i.invariant c.loop-i-test.true _ _ c.visit_job-t.ensures c.if-t-eq0.false c.place-i.ensures.0
+loop-i-smaller c = walk_less _ _ _ _ _ _ c.requires _ _ _ c.loop-i.invariant c.loop-i-test.true c.from-i.ensures
 
 pub shape_of-jobs : goal.shape_of-jobs
 shape_of-jobs c = c.loop-i.invariant.long

@@ -1,5 +1,9 @@
-use Rattle.slots.proofs.HighLaws.{none_high}
+use Rattle.std.proofs.Common.{◌∙◌}
+use Rattle.slots.proofs.HighLaws.{none_high, position_high}
 use Rattle.slots.proofs.first_high.Goals as goal
 
-pub returns-then-top-n : goal.returns-then-top-n
-returns-then-top-n c = none_high _ _ _ c.highest-top.ensures c.if-top-n.true
+pub returns-then-from-n : goal.returns-then-from-n
+returns-then-from-n c = none_high _ _ _ c.highest.ensures (rw (← c.from.ensures) c.if-from-n.true)
+
+pub returns : goal.returns
+returns c = c.seek_high.ensures ∙ position_high _ _

@@ -8,8 +8,8 @@ overflow_mul-f c = omega (arith, few_slots c.args.f c.args.attributes.now c.args
 pub returns-then-plan-f : goal.returns-then-plan-f
 returns-then-plan-f c = other_length c.args.f c.args.attributes.now c.args.headings.now c.args.pairs.now c.args.plan.now c.args.room c.requires c.if-plan-f.true
 
-pub returns-then-e-plan : goal.returns-then-e-plan
-returns-then-e-plan c = high_slot_lem c.args.f c.args.attributes.now c.args.headings.now c.args.pairs.now c.args.plan.now c.args.room c.requires c.if-plan-f.false c.first_high-e.ensures c.if-e-plan.true
+pub returns-in-Some : goal.returns-in-Some
+returns-in-Some c = high_slot_lem c.args.f c.args.attributes.now c.args.headings.now c.args.pairs.now c.args.plan.now c.args.room c.requires c.if-plan-f.false c.in-Some.ensures
 
 pub head_length-requires : goal.head_length-requires
 head_length-requires c = c.requires.is_sound
@@ -18,7 +18,7 @@ pub overflow_add-length : goal.overflow_add-length
 overflow_add-length c = omega (arith, c.head_length.ensures.1, few_slots c.args.f c.args.attributes.now c.args.headings.now c.args.pairs.now c.args.plan.now 0 c.requires, c.if-plan-f.false)
 
 pub returns-then-room-length : goal.returns-then-room-length
-returns-then-room-length c = too_short c.args.f c.args.attributes.now c.args.headings.now c.args.pairs.now c.args.plan.now c.args.room c.requires c.if-plan-f.false c.first_high-e.ensures c.if-e-plan.false c.head_length.ensures.0 c.if-room-length.true
+returns-then-room-length c = too_short c.args.f c.args.attributes.now c.args.headings.now c.args.pairs.now c.args.plan.now c.args.room c.requires c.if-plan-f.false c.in_default.ensures c.head_length.ensures.0 c.if-room-length.true
 
 pub returns : goal.returns
-returns c = fits c.args.f c.args.attributes.now c.args.headings.now c.args.pairs.now c.args.plan.now c.args.room c.requires c.if-plan-f.false c.first_high-e.ensures c.if-e-plan.false c.head_length.ensures.0 c.if-room-length.false
+returns c = fits c.args.f c.args.attributes.now c.args.headings.now c.args.pairs.now c.args.plan.now c.args.room c.requires c.if-plan-f.false c.in_default.ensures c.head_length.ensures.0 c.if-room-length.false

@@ -1,6 +1,0 @@
-use mathlib.Core.List.{[], ◌∷◌}
-use Rattle.evidence.proofs.Places.{at_next}
-use Rattle.evidence.proofs.two_of.Goals as goal
-
-pub returns : goal.returns
-returns c = at_next _ (c.args.b ∷ []) _ _ c.if-which-eq0.false c.one_of.ensures
