@@ -3,58 +3,40 @@ use Rattle.std.specs.Prelude.{ℕ, ◌+◌, ◌-◌, ◌*◌, List, leb, ltb, eq
 use Rattle.vocabulary.specs.Test.{pick}
 use Rattle.kinds.specs.declared.Task.{Task}
 use Rattle.kinds.specs.declared.Counts.{Counts}
+use Rattle.kinds.specs.declared.Tables.{Tables}
 use Rattle.kinds.specs.declared.TaskSet.{TaskSet}
 use Rattle.kinds.specs.Tasks.{Tasks, Patterns, Set, tasks_of, patterns_of, task_of, pairs_in, put_task, put_heading, put_pair}
 
+-- tables with 0 in every place, and tables by what they hold
+abbrev pub no_tables : Tables
+no_tables = record { attributes = replicate 256 0; headings = replicate 192 0; pairs = replicate 2048 0 }
+
+abbrev pub tables_of : List ℕ → List ℕ → List ℕ → Tables
+tables_of xs hs ps = record { attributes = xs; headings = hs; pairs = ps }
+
 -- no task and no pattern: every entry is 0
 abbrev pub no_tasks : ℕ → ℕ → TaskSet
-no_tasks e m =
-    record {
-      edition = e;
-      processors = m;
-      tasks = 0;
-      attributes = replicate 256 0;
-      patterns = 0;
-      headings = replicate 192 0;
-      pairs = replicate 2048 0;
-    }
+no_tasks e m = record { edition = e; processors = m; tasks = 0; patterns = 0; tables = no_tables }
 
 -- numbers and tables
-abbrev pub in_tables : Counts → List ℕ → List ℕ → List ℕ → TaskSet
-in_tables f xs hs ps =
-    record {
-      edition = f.edition;
-      processors = f.processors;
-      tasks = f.tasks;
-      attributes = xs;
-      patterns = f.patterns;
-      headings = hs;
-      pairs = ps;
-    }
+abbrev pub in_tables : Counts → Tables → TaskSet
+in_tables f t =
+    record { edition = f.edition; processors = f.processors; tasks = f.tasks; patterns = f.patterns; tables = t }
 
 -- what they stand for, where the tables are lent and no set is put together
-abbrev pub lent_tasks : Counts → List ℕ → Tasks
-lent_tasks f xs = tasks_of f.tasks xs
+abbrev pub lent_tasks : Counts → Tables → Tasks
+lent_tasks f t = tasks_of f.tasks t.attributes
 
-abbrev pub lent_patterns : Counts → List ℕ → List ℕ → Patterns
-lent_patterns f hs ps = patterns_of f.patterns hs ps
+abbrev pub lent_patterns : Counts → Tables → Patterns
+lent_patterns f t = patterns_of f.patterns t.headings t.pairs
 
-abbrev pub lent_set : Counts → List ℕ → List ℕ → List ℕ → Set
-lent_set f xs hs ps =
-    record { edition = f.edition; processors = f.processors; tasks = lent_tasks f xs; patterns = lent_patterns f hs ps }
+abbrev pub lent_set : Counts → Tables → Set
+lent_set f t =
+    record { edition = f.edition; processors = f.processors; tasks = lent_tasks f t; patterns = lent_patterns f t }
 
 -- no room for what is added: a task too many is counted
 abbrev pub overfull : TaskSet → TaskSet
-overfull s =
-    record {
-      edition = s.edition;
-      processors = s.processors;
-      tasks = 65;
-      attributes = s.attributes;
-      patterns = s.patterns;
-      headings = s.headings;
-      pairs = s.pairs;
-    }
+overfull s = record { edition = s.edition; processors = s.processors; tasks = 65; patterns = s.patterns; tables = s.tables }
 
 -- a task more
 abbrev pub plus_task : TaskSet → Task → TaskSet
@@ -63,10 +45,8 @@ plus_task s t =
       edition = s.edition;
       processors = s.processors;
       tasks = s.tasks + 1;
-      attributes = put_task s.attributes s.tasks t;
       patterns = s.patterns;
-      headings = s.headings;
-      pairs = s.pairs;
+      tables = tables_of (put_task s.tables.attributes s.tasks t) s.tables.headings s.tables.pairs;
     }
 
 unfoldable pub with_task : TaskSet → ℕ → ℕ → ℕ → ℕ → TaskSet
@@ -79,10 +59,8 @@ plus_pattern s x y =
       edition = s.edition;
       processors = s.processors;
       tasks = s.tasks;
-      attributes = s.attributes;
       patterns = s.patterns + 1;
-      headings = put_heading s.headings s.patterns x y 0;
-      pairs = s.pairs;
+      tables = tables_of s.tables.attributes (put_heading s.tables.headings s.patterns x y 0) s.tables.pairs;
     }
 
 unfoldable pub with_pattern : TaskSet → ℕ → ℕ → TaskSet
@@ -91,14 +69,13 @@ with_pattern s x y = pick (leb 64 s.patterns) (overfull s) (plus_pattern s x y)
 -- a pair more, at place x, for pattern k
 abbrev pub plus_pair : TaskSet → ℕ → ℕ → ℕ → ℕ → TaskSet
 plus_pair s k x a b =
+    let hs : List ℕ = s.tables.headings in
     record {
       edition = s.edition;
       processors = s.processors;
       tasks = s.tasks;
-      attributes = s.attributes;
       patterns = s.patterns;
-      headings = set s.headings (3 * k + 2) (get_or s.headings (3 * k + 2) 0 + 1);
-      pairs = put_pair s.pairs x a b;
+      tables = tables_of s.tables.attributes (set hs (3 * k + 2) (get_or hs (3 * k + 2) 0 + 1)) (put_pair s.tables.pairs x a b);
     }
 
 -- a pair more for the last pattern, where there is one and the pairs in all leave room
@@ -106,5 +83,5 @@ unfoldable pub with_pair : TaskSet → ℕ → ℕ → TaskSet
 with_pair s a b =
     pick (eqb s.patterns 0) (overfull s)
     (pick (ltb 64 s.patterns) (overfull s)
-    (pick (leb 1024 (pairs_in s.headings s.patterns)) (overfull s)
-    (plus_pair s (s.patterns - 1) (pairs_in s.headings s.patterns) a b)))
+    (pick (leb 1024 (pairs_in s.tables.headings s.patterns)) (overfull s)
+    (plus_pair s (s.patterns - 1) (pairs_in s.tables.headings s.patterns) a b)))

@@ -13,7 +13,7 @@ use Rattle.kinds.specs.declared.Counts.{Counts}
 use Rattle.kinds.specs.Limits.{holds, periods}
 use Rattle.kinds.specs.Editions.{editions}
 use Rattle.kinds.specs.Tasks.{Tasks, Set, tasks_of, patterns_of, period}
-use Rattle.kinds.specs.Build.{lent_set}
+use Rattle.kinds.specs.Build.{tables_of, lent_set}
 use Rattle.kinds.specs.Cycle.{cycle, jobs, cycle_fits, periods_fit, cycle_is, cycle_of}
 use Rattle.kinds.specs.Sound.{attributes_fit, task_fits, pattern_fits, opening_fits, sound, sound_cycle, counts_of, patterns_tested, PatternsAsked}
 use Rattle.kinds.specs.RangeLaws.{pick_some, pick_none, holds_at, holds_yes, holds_high}
@@ -102,7 +102,7 @@ counts_found s {f} e =
 
 -- a set by value with the numbers that were found is that of its tables
 module _ (s : Set) {f : Counts} (c : CountsFound s f) where
-  pub lent_is : lent_set f s.tasks.attributes s.patterns.headings s.patterns.pairs ≡ s
+  pub lent_is : lent_set f (tables_of s.tasks.attributes s.patterns.headings s.patterns.pairs) ≡ s
   lent_is = by c.edition c.processors c.tasks c.patterns
     where
       by : {e m n k : ℕ} → e ≡ s.edition → m ≡ s.processors → n ≡ s.tasks.count → k ≡ s.patterns.count
@@ -115,7 +115,7 @@ module _ (s : Set) {f : Counts} (c : CountsFound s f) where
           ≡ s
       by a b d g = rw (a, b, d, g)
 
-  pub lent_found : CountsFound (lent_set f s.tasks.attributes s.patterns.headings s.patterns.pairs) f
+  pub lent_found : CountsFound (lent_set f (tables_of s.tasks.attributes s.patterns.headings s.patterns.pairs)) f
   lent_found = subst (λ (z : Set). CountsFound z f) (sym lent_is) c
 
 -- ---- the ways out

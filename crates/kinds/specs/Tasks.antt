@@ -116,8 +116,8 @@ view s =
     record {
       edition = s.edition;
       processors = s.processors;
-      tasks = tasks_of s.tasks s.attributes;
-      patterns = patterns_of s.patterns s.headings s.pairs;
+      tasks = tasks_of s.tasks s.tables.attributes;
+      patterns = patterns_of s.patterns s.tables.headings s.tables.pairs;
     }
 
 -- ---- a task, a heading or a pair written into its table

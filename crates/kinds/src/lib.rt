@@ -13,7 +13,7 @@ ghost use Rattle.kinds.specs.Cycle.{multiple_of, ticks_of, cycle_of};
 ghost use Rattle.kinds.specs.Links.{spans_of, links_in};
 ghost use Rattle.kinds.specs.Sound.{attributes_fit, task_fits, pair_fits, heading_fits, pattern_tested, patterns_tested, PatternsAsked, opening_fits};
 ghost use Rattle.kinds.specs.Sound.{sound, sound_cycle, counts_of};
-ghost use Rattle.kinds.specs.Build.{no_tasks, in_tables, with_task, with_pattern, with_pair};
+ghost use Rattle.kinds.specs.Build.{no_tables, no_tasks, in_tables, lent_tasks, lent_patterns, with_task, with_pattern, with_pair};
 
 // The tables of a set, each of which can be lent: T, C, O and D of task after task,
 pub type Attributes = [u32; 256];
@@ -22,16 +22,22 @@ pub type Headings = [u32; 192];
 // and the two numbers of pair after pair, through all patterns.
 pub type Pairs = [u16; 2048];
 
+// The tables of a set, which are lent as one.
+#[derive(Clone, Copy)]
+pub struct Tables {
+    pub attributes: Attributes,
+    pub headings: Headings,
+    pub pairs: Pairs,
+}
+
 // A task set: how many tasks and patterns it has, and its tables.
 #[derive(Clone, Copy)]
 pub struct TaskSet {
     pub edition: u32,
     pub processors: u32,
     pub tasks: usize,
-    pub attributes: Attributes,
     pub patterns: usize,
-    pub headings: Headings,
-    pub pairs: Pairs,
+    pub tables: Tables,
 }
 
 // T, C, O and D of one task.
@@ -147,6 +153,19 @@ impl Edition {
     }
 }
 
+impl Tables {
+    // Tables with 0 in every place.
+    pub fn new() -> Tables
+        ensures { result ≡ no_tables }
+    {
+        Tables {
+            attributes: [0; 256],
+            headings: [0; 192],
+            pairs: [0; 2048],
+        }
+    }
+}
+
 impl TaskSet {
     pub const FEWEST_TASKS: usize = 1;
 
@@ -195,25 +214,21 @@ impl TaskSet {
             edition,
             processors,
             tasks: 0,
-            attributes: [0; 256],
             patterns: 0,
-            headings: [0; 192],
-            pairs: [0; 2048],
+            tables: Tables::new(),
         }
     }
 
     // A set by its numbers and tables.
-    pub fn of(f: Counts, attributes: Attributes, headings: Headings, pairs: Pairs) -> TaskSet
-        ensures { result ≡ in_tables f attributes headings pairs }
+    pub fn of(f: Counts, tables: Tables) -> TaskSet
+        ensures { result ≡ in_tables f tables }
     {
         TaskSet {
             edition: f.edition,
             processors: f.processors,
             tasks: f.tasks,
-            attributes,
             patterns: f.patterns,
-            headings,
-            pairs,
+            tables,
         }
     }
 
@@ -228,10 +243,10 @@ impl TaskSet {
             return self;
         }
         let x = TaskSet::OF_TASK * i;
-        self.attributes[x] = period;
-        self.attributes[x + TaskSet::RUNNING] = running;
-        self.attributes[x + TaskSet::OFFSET] = offset;
-        self.attributes[x + TaskSet::DEADLINE] = deadline;
+        self.tables.attributes[x] = period;
+        self.tables.attributes[x + TaskSet::RUNNING] = running;
+        self.tables.attributes[x + TaskSet::OFFSET] = offset;
+        self.tables.attributes[x + TaskSet::DEADLINE] = deadline;
         self.tasks = i + 1;
         self
     }
@@ -246,9 +261,9 @@ impl TaskSet {
             return self;
         }
         let x = TaskSet::OF_PATTERN * k;
-        self.headings[x] = from;
-        self.headings[x + TaskSet::TO] = to;
-        self.headings[x + TaskSet::LENGTH] = 0;
+        self.tables.headings[x] = from;
+        self.tables.headings[x + TaskSet::TO] = to;
+        self.tables.headings[x + TaskSet::LENGTH] = 0;
         self.patterns = k + 1;
         self
     }
@@ -266,17 +281,17 @@ impl TaskSet {
             self.tasks = TaskSet::TASK_LIMIT;
             return self;
         }
-        let headings = self.headings;
+        let headings = self.tables.headings;
         let used = pairs_in(&headings, n);
         if TaskSet::MOST_PAIRS <= used {
             self.tasks = TaskSet::TASK_LIMIT;
             return self;
         }
         let k = TaskSet::OF_PATTERN * (n - 1) + TaskSet::LENGTH;
-        self.headings[k] = headings[k] + 1;
+        self.tables.headings[k] = headings[k] + 1;
         let x = TaskSet::OF_PAIR * used;
-        self.pairs[x] = a;
-        self.pairs[x + 1] = b;
+        self.tables.pairs[x] = a;
+        self.tables.pairs[x + 1] = b;
         self
     }
 }
@@ -592,40 +607,28 @@ fn heading_fits(tasks: u32, low: Key, x: u32, y: u32, pairs: u32, used: usize) -
 }
 
 // How many links a pattern makes, if it keeps rule 6 with its pairs, after the patterns before it.
-fn pattern_fits(
-    f: Counts,
-    p: Pattern,
-    low: Key,
-    used: usize,
-    attributes: &Attributes,
-    pairs: &Pairs,
-) -> Option<u64>
+fn pattern_fits(f: Counts, p: Pattern, low: Key, used: usize, tables: &Tables) -> Option<u64>
     requires { (f.tasks ≤ 64) × (used ≤ 1024) }
-    ensures { result ≡ pattern_tested f.edition (tasks_of f.tasks attributes.now) f.ticks pairs.now low used p }
+    ensures { result ≡ pattern_tested f.edition (lent_tasks f tables.now) f.ticks tables.now.pairs low used p }
 {
     if !heading_fits(f.tasks as u32, low, p.from, p.to, p.pairs, used) {
         return None;
     }
     let s = spans_of(
         f.edition,
-        attributes[TaskSet::OF_TASK * p.from as usize],
-        attributes[TaskSet::OF_TASK * p.to as usize],
+        tables.attributes[TaskSet::OF_TASK * p.from as usize],
+        tables.attributes[TaskSet::OF_TASK * p.to as usize],
     );
-    if !pairs_fit(pairs, used, p.pairs as usize, s.first, s.second) {
+    if !pairs_fit(&tables.pairs, used, p.pairs as usize, s.first, s.second) {
         return None;
     }
     Some(links_in(p.pairs, f.ticks, s.whole))
 }
 
-// How many links the patterns make, if they keep rule 6 with their pairs. The tables have one lifetime, so that the fields of one set can be lent together.
-fn patterns_fit<'a>(
-    f: Counts,
-    attributes: &'a Attributes,
-    headings: &'a Headings,
-    pairs: &'a Pairs,
-) -> Option<u64>
-    requires { PatternsAsked (tasks_of f.tasks attributes.now) (patterns_of f.patterns headings.now pairs.now) f.ticks }
-    ensures { result ≡ patterns_tested f.edition (tasks_of f.tasks attributes.now) (patterns_of f.patterns headings.now pairs.now) }
+// How many links the patterns make, if they keep rule 6 with their pairs.
+fn patterns_fit(f: Counts, tables: &Tables) -> Option<u64>
+    requires { PatternsAsked (lent_tasks f tables.now) (lent_patterns f tables.now) f.ticks }
+    ensures { result ≡ patterns_tested f.edition (lent_tasks f tables.now) (lent_patterns f tables.now) }
 {
     let mut low = Key {
         first: 0,
@@ -634,8 +637,8 @@ fn patterns_fit<'a>(
     let mut used: usize = 0;
     let mut links: u64 = 0;
     for k in 0..f.patterns {
-        let p = pattern_at(headings, k);
-        let made = pattern_fits(f, p, low, used, attributes, pairs)?;
+        let p = pattern_at(&tables.headings, k);
+        let made = pattern_fits(f, p, low, used, tables)?;
         low = Key {
             first: p.from,
             second: p.to + 1,
@@ -655,10 +658,10 @@ fn sound_cycle(set: TaskSet) -> Option<Cycle>
     if !opening_fits(set.edition, n, m) {
         return None;
     }
-    if !tasks_fit(&set.attributes, n) {
+    if !tasks_fit(&set.tables.attributes, n) {
         return None;
     }
-    let c = cycle_of(&set.attributes, n)?;
+    let c = cycle_of(&set.tables.attributes, n)?;
     let k = set.patterns;
     if TaskSet::MOST_PATTERNS < k {
         return None;
@@ -671,7 +674,7 @@ fn sound_cycle(set: TaskSet) -> Option<Cycle>
         ticks: c.ticks,
         jobs: c.jobs,
     };
-    let links = patterns_fit(f, &set.attributes, &set.headings, &set.pairs)?;
+    let links = patterns_fit(f, &set.tables)?;
     if TaskSet::MOST_LINKS < links {
         return None;
     }

@@ -7,13 +7,13 @@ use Rattle.kinds.proofs.pattern_fits.Goals as goal
 pub returns-then-not-heading_fits : goal.returns-then-not-heading_fits
 returns-then-not-heading_fits c = one_heading _ _ _ _ _ _ _ (sym c.heading_fits.ensures ∙ c.if-not-heading_fits.true)
 
-pub bounds-attributes-p : goal.bounds-attributes-p
-bounds-attributes-p c =
+pub bounds-tables-p : goal.bounds-tables-p
+bounds-tables-p c =
     let f = heading_facts _ _ _ _ _ _ (sym c.heading_fits.ensures ∙ c.if-not-heading_fits.false) in
     omega (arith, f.from_low, c.requires)
 
-pub bounds-attributes-p-2 : goal.bounds-attributes-p-2
-bounds-attributes-p-2 c =
+pub bounds-tables-p-2 : goal.bounds-tables-p-2
+bounds-tables-p-2 c =
     let f = heading_facts _ _ _ _ _ _ (sym c.heading_fits.ensures ∙ c.if-not-heading_fits.false) in
     omega (arith, f.to_low, c.requires)
 

@@ -20,7 +20,7 @@ returns-then-used-ge-MOST_PAIRS c = rw (ne_eqb _ _ c.if-n-eq0.false, le-ltb 64 _
 pub overflow_add-self : goal.overflow_add-self
 overflow_add-self c =
     let s = c.args.self in
-    omega (arith, c.pairs_in-used.ensures, pairs_each s.headings (s.patterns - 1) s.patterns (omega (arith, c.if-n-eq0.false)))
+    omega (arith, c.pairs_in-used.ensures, pairs_each s.tables.headings (s.patterns - 1) s.patterns (omega (arith, c.if-n-eq0.false)))
 
 pub returns : goal.returns
 unfolding with_pair
