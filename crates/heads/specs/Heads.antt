@@ -2,7 +2,7 @@
 use Rattle.std.specs.Prelude.{List, ℕ, leb, Result, Ok, Err}
 use Rattle.vocabulary.specs.Test.{pick}
 use Rattle.kinds.specs.declared.TaskSet.{TaskSet}
-use Rattle.kinds.specs.Build.{in_tables}
+use Rattle.kinds.specs.Build.{tables_of, in_tables}
 use Rattle.kinds.specs.Limits.{task_counts, processor_counts, pattern_counts, most_links, no_key}
 use Rattle.kinds.specs.Editions.{editions}
 use Rattle.kinds.specs.Tasks.{Tasks, tasks_of}
@@ -93,4 +93,4 @@ head_from s t v =
 
 -- ---- the set of a head: its numbers and its tables
 abbrev pub set_of : Counts → List ℕ → PatternTables → TaskSet
-set_of f t v = in_tables f t v.headings v.pairs
+set_of f t v = in_tables f (tables_of t v.headings v.pairs)

@@ -10,7 +10,9 @@ ghost use Rattle.heads.specs.Tables.{pattern_tables, pattern_read, patterns_read
 ghost use Rattle.heads.specs.Heads.{pattern_after, patterns_after, opening_of, middle_from, head_read, head_from};
 ghost use Rattle.heads.specs.LoopSteps.{closing};
 
-use kinds::{Attributes, Counts, Cycle, Edition, Headings, Key, Pairs, Pattern, Task, TaskSet};
+use kinds::{
+    Attributes, Counts, Cycle, Edition, Headings, Key, Pairs, Pattern, Tables, Task, TaskSet,
+};
 use numbers::Refusal;
 
 // The limits of counts, as wide as the numbers of a file.
@@ -348,20 +350,15 @@ fn close_head(p: usize, links: u64, f: Counts) -> Result<(Counts, usize), Refusa
 
 // The head of a file, from the edition to the last pair, into the tables that are lent, for a caller that puts no set together: its numbers, and the
 // place after it. The attributes are cleared first: a table of this size is all that the cycle asks of its caller.
-pub fn read_head(
-    file: &[u8],
-    attributes: &mut Attributes,
-    headings: &mut Headings,
-    pairs: &mut Pairs,
-) -> Result<(Counts, usize), Refusal>
-    ensures { head_read result attributes.new (pattern_tables headings.new pairs.new)
-        ≡ head_from file.now no_attributes (pattern_tables headings.old pairs.old) }
+pub fn read_head(file: &[u8], tables: &mut Tables) -> Result<(Counts, usize), Refusal>
+    ensures { head_read result tables.new.attributes (pattern_tables tables.new.headings tables.new.pairs)
+        ≡ head_from file.now no_attributes (pattern_tables tables.old.headings tables.old.pairs) }
 {
-    *attributes = [0u32; 256];
+    tables.attributes = [0u32; 256];
     let (opening, p0) = read_opening(file)?;
     let tasks = opening.tasks as usize;
-    let p1 = read_tasks(file, p0, tasks, attributes)?;
-    let (c, k, p2) = read_middle(file, p1, tasks, attributes)?;
+    let p1 = read_tasks(file, p0, tasks, &mut tables.attributes)?;
+    let (c, k, p2) = read_middle(file, p1, tasks, &tables.attributes)?;
     let f = Counts {
         edition: opening.edition,
         processors: opening.processors,
@@ -370,6 +367,13 @@ pub fn read_head(
         ticks: c.ticks,
         jobs: c.jobs,
     };
-    let (p, links) = read_patterns(file, p2, f, attributes, headings, pairs)?;
+    let (p, links) = read_patterns(
+        file,
+        p2,
+        f,
+        &tables.attributes,
+        &mut tables.headings,
+        &mut tables.pairs,
+    )?;
     close_head(p, links, f)
 }

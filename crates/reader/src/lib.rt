@@ -9,7 +9,7 @@ ghost use Rattle.reader.specs.HighSlots.{high_from};
 ghost use Rattle.heads.specs.Tables.{pattern_tables};
 ghost use Rattle.reader.specs.Files.{ended_of, whole_of, slots_from, read_of, outcome_read, taken_of, whole_read, whole_from};
 
-use kinds::{Attributes, Counts, Headings, Pairs, TaskSet};
+use kinds::{Counts, Tables, TaskSet};
 use numbers::Refusal;
 
 // The set of a plan file, and the place of its first slot.
@@ -91,12 +91,10 @@ fn take_whole(at: usize, length: usize, set: TaskSet) -> Option<TaskSet>
 pub fn read(file: &[u8]) -> Result<Loaded, Refusal>
     ensures { result ≡ read_of file.now }
 {
-    let mut attributes = [0u32; 256];
-    let mut headings = [0u32; 192];
-    let mut pairs = [0u16; 2048];
-    let (f, at) = heads::read_head(file, &mut attributes, &mut headings, &mut pairs)?;
+    let mut tables = Tables::new();
+    let (f, at) = heads::read_head(file, &mut tables)?;
     let first_slot = end_file(file, at, f)?;
-    let set = TaskSet::of(f, attributes, headings, pairs);
+    let set = TaskSet::of(f, tables);
     Ok(Loaded { set, first_slot })
 }
 
@@ -104,10 +102,8 @@ pub fn read(file: &[u8]) -> Result<Loaded, Refusal>
 pub fn read_outcome(file: &[u8]) -> Result<usize, Refusal>
     ensures { result ≡ outcome_read file.now }
 {
-    let mut attributes = [0u32; 256];
-    let mut headings = [0u32; 192];
-    let mut pairs = [0u16; 2048];
-    let (f, at) = heads::read_head(file, &mut attributes, &mut headings, &mut pairs)?;
+    let mut tables = Tables::new();
+    let (f, at) = heads::read_head(file, &mut tables)?;
     end_file(file, at, f)
 }
 
@@ -115,29 +111,22 @@ pub fn read_outcome(file: &[u8]) -> Result<usize, Refusal>
 pub fn take_head(bytes: &[u8]) -> Option<TaskSet>
     ensures { result ≡ taken_of bytes.now }
 {
-    let mut attributes = [0u32; 256];
-    let mut headings = [0u32; 192];
-    let mut pairs = [0u16; 2048];
-    match heads::read_head(bytes, &mut attributes, &mut headings, &mut pairs) {
+    let mut tables = Tables::new();
+    match heads::read_head(bytes, &mut tables) {
         Err(_) => None,
         Ok((f, at)) => {
-            let set = TaskSet::of(f, attributes, headings, pairs);
+            let set = TaskSet::of(f, tables);
             take_whole(at, bytes.len(), set)
         }
     }
 }
 
 // The numbers of bytes that are a head and nothing more, with its entries in the tables that are lent. It copies no set.
-pub fn read_whole(
-    bytes: &[u8],
-    attributes: &mut Attributes,
-    headings: &mut Headings,
-    pairs: &mut Pairs,
-) -> Option<Counts>
-    ensures { whole_read result attributes.new (pattern_tables headings.new pairs.new)
-        ≡ whole_from bytes.now (pattern_tables headings.old pairs.old) }
+pub fn read_whole(bytes: &[u8], tables: &mut Tables) -> Option<Counts>
+    ensures { whole_read result tables.new.attributes (pattern_tables tables.new.headings tables.new.pairs)
+        ≡ whole_from bytes.now (pattern_tables tables.old.headings tables.old.pairs) }
 {
-    let Ok((f, at)) = heads::read_head(bytes, attributes, headings, pairs) else {
+    let Ok((f, at)) = heads::read_head(bytes, tables) else {
         return None;
     };
     if at == bytes.len() {
