@@ -81,14 +81,12 @@ fn emit_patterns(out: &mut [u8], at: usize, headings: &Headings, pairs: &Pairs, 
 {
     let mut next = at;
     let mut used: usize = 0;
-    let mut k: usize = 0;
-    while k < n {
+    for k in 0..n {
         let p = kinds::pattern_at(headings, k);
         let count = kinds::wide(p.pairs);
         next = emit_three(out, next, p.from, p.to, p.pairs);
         next = emit_pairs(out, next, pairs, used, count);
         used += count;
-        k += 1;
     }
     next
 }
@@ -116,9 +114,5 @@ pub(crate) fn emit_slots(out: &mut [u8], at: usize, slots: &[u8])
     requires { at + length slots.now ≤ length out.old }
     ensures { Wrote out.old at slots.now out.new (at + length slots.now) }
 {
-    let mut e: usize = 0;
-    while e < slots.len() {
-        out[at + e] = slots[e];
-        e += 1;
-    }
+    out[at..at + slots.len()].copy_from_slice(slots);
 }

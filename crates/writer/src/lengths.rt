@@ -69,13 +69,11 @@ fn patterns_length(headings: &Headings, pairs: &Pairs, n: usize) -> usize
 {
     let mut total: usize = 0;
     let mut used: usize = 0;
-    let mut k: usize = 0;
-    while k < n {
+    for k in 0..n {
         let p = kinds::pattern_at(headings, k);
         let count = kinds::wide(p.pairs);
         total += three_length(p.from, p.to, p.pairs) + pairs_length(pairs, used, count);
         used += count;
-        k += 1;
     }
     total
 }

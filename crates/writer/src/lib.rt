@@ -13,11 +13,9 @@ use kinds::{Attributes, Counts, Headings, Pairs, TaskSet};
 mod bytes;
 mod lengths;
 
-// What the writer did.
+// Why a file is not written.
 #[derive(Clone, Copy)]
-pub enum Written {
-    // The file's length.
-    Length(usize),
+pub enum WriteError {
     BadSet,
     WrongLength,
     // Its place in the plan.
@@ -34,22 +32,22 @@ fn answer<'a>(
     pairs: &'a Pairs,
     plan: &[u8],
     room: usize,
-) -> Written
+) -> Result<usize, WriteError>
     requires { CountsFound (lent_set f attributes.now headings.now pairs.now) f }
     ensures { result ≡ written_of (lent_set f attributes.now headings.now pairs.now) plan.now room }
 {
     if plan.len() != f.processors as usize * f.ticks as usize {
-        return Written::WrongLength;
+        return Err(WriteError::WrongLength);
     }
     let e = slots::first_high(plan, f.tasks);
     if e < plan.len() {
-        return Written::BadSlot(e);
+        return Err(WriteError::BadSlot(e));
     }
     let length = lengths::head_length(f, attributes, headings, pairs) + plan.len();
     if room < length {
-        return Written::TooShort;
+        return Err(WriteError::TooShort);
     }
-    Written::Length(length)
+    Ok(length)
 }
 
 // The file of the numbers and tables of a sound set and a plan, where nothing is refused.
@@ -60,34 +58,30 @@ fn write_tables<'a>(
     pairs: &'a Pairs,
     plan: &[u8],
     out: &mut [u8],
-) -> Written
+) -> Result<usize, WriteError>
     requires { CountsFound (lent_set f attributes.now headings.now pairs.now) f }
     ensures { write_leaves result out.new
         ≡ write_for (lent_set f attributes.now headings.now pairs.now) plan.now out.old }
 {
-    match answer(f, attributes, headings, pairs, plan, out.len()) {
-        Written::Length(n) => {
-            let at = bytes::emit_head(out, f, attributes, headings, pairs);
-            bytes::emit_slots(out, at, plan);
-            Written::Length(n)
-        }
-        refusal => refusal,
-    }
+    let n = answer(f, attributes, headings, pairs, plan, out.len())?;
+    let at = bytes::emit_head(out, f, attributes, headings, pairs);
+    bytes::emit_slots(out, at, plan);
+    Ok(n)
 }
 
 // Writes the file of a set and a plan. A refusal, the first of 10, 11, 12 and 18, leaves the buffer as it is.
-pub fn write(set: TaskSet, plan: &[u8], out: &mut [u8]) -> Written
+pub fn write(set: TaskSet, plan: &[u8], out: &mut [u8]) -> Result<usize, WriteError>
     ensures { write_leaves result out.new ≡ write_for (view set) plan.now out.old }
 {
     let f = kinds::counts_of(set);
     if f.ticks == 0 {
-        return Written::BadSet;
+        return Err(WriteError::BadSet);
     }
     write_tables(f, &set.attributes, &set.headings, &set.pairs, plan, out)
 }
 
 // The same on tasks as a file's head.
-pub fn write_head(tasks: &[u8], plan: &[u8], out: &mut [u8]) -> Written
+pub fn write_head(tasks: &[u8], plan: &[u8], out: &mut [u8]) -> Result<usize, WriteError>
     ensures { write_leaves result out.new ≡ write_head_for tasks.now plan.now out.old }
 {
     let mut attributes = [0u32; 256];
@@ -95,13 +89,13 @@ pub fn write_head(tasks: &[u8], plan: &[u8], out: &mut [u8]) -> Written
     let mut pairs = [0u16; 2048];
     let f = reader::read_whole(tasks, &mut attributes, &mut headings, &mut pairs);
     if f.ticks == 0 {
-        return Written::BadSet;
+        return Err(WriteError::BadSet);
     }
     write_tables(f, &attributes, &headings, &pairs, plan, out)
 }
 
 // What `write_head` answers for a buffer of so many bytes.
-pub fn written_head(tasks: &[u8], plan: &[u8], room: usize) -> Written
+pub fn written_head(tasks: &[u8], plan: &[u8], room: usize) -> Result<usize, WriteError>
     ensures { result ≡ written_head tasks.now plan.now room }
 {
     let mut attributes = [0u32; 256];
@@ -109,33 +103,33 @@ pub fn written_head(tasks: &[u8], plan: &[u8], room: usize) -> Written
     let mut pairs = [0u16; 2048];
     let f = reader::read_whole(tasks, &mut attributes, &mut headings, &mut pairs);
     if f.ticks == 0 {
-        return Written::BadSet;
+        return Err(WriteError::BadSet);
     }
     answer(f, &attributes, &headings, &pairs, plan, room)
 }
 
 // The number of an answer: 0, 10, 11, 12 or 18.
-pub fn number_of(w: Written) -> u32
+pub fn number_of(w: Result<usize, WriteError>) -> u32
     ensures { result ≡ number_of w }
 {
     match w {
-        Written::Length(_) => 0,
-        Written::BadSet => 10,
-        Written::WrongLength => 11,
-        Written::BadSlot(_) => 12,
-        Written::TooShort => 18,
+        Ok(_) => 0,
+        Err(WriteError::BadSet) => 10,
+        Err(WriteError::WrongLength) => 11,
+        Err(WriteError::BadSlot(_)) => 12,
+        Err(WriteError::TooShort) => 18,
     }
 }
 
 // Its evidence, by place; 0 past the last.
-pub fn evidence_of(w: Written, which: u32) -> usize
+pub fn evidence_of(w: Result<usize, WriteError>, which: u32) -> usize
     ensures { result ≡ get_or (evidence_of w) which 0 }
 {
     match w {
-        Written::Length(n) => evidence::one_of(which, n),
-        Written::BadSet => 0,
-        Written::WrongLength => 0,
-        Written::BadSlot(e) => evidence::one_of(which, e),
-        Written::TooShort => 0,
+        Ok(n) => evidence::one_of(which, n),
+        Err(WriteError::BadSet) => 0,
+        Err(WriteError::WrongLength) => 0,
+        Err(WriteError::BadSlot(e)) => evidence::one_of(which, e),
+        Err(WriteError::TooShort) => 0,
     }
 }
