@@ -49,8 +49,8 @@ module _ (f : Counts) (xs hs ps : List ℕ) (ok : sound (lent_set f xs hs ps) �
       }
 
   -- a number of a task, by its task and its place among the four
-  pub low_tasks : (j : ℕ) → j < 4 * f.tasks → get_or xs j 0 < 2097152
-  low_tasks j l = by (j % 4) refl
+  pub low_tasks : (j : ℕ) → j < 4 * f.tasks → get_or xs (0 + j) 0 < 2097152
+  low_tasks j l = let z : 0 + j ≡ j = omega arith in rw z (by (j % 4) refl)
     where
       i : ℕ
       i = j / 4

@@ -7,9 +7,10 @@ ghost use Rattle.kinds.specs.Sound.{sound};
 ghost use Rattle.numbers.specs.Numbers.{number_bytes};
 ghost use Rattle.writer.specs.Format.{bytes_in, head_bytes};
 ghost use Rattle.writer.specs.FormatLaws.{pattern_bytes};
-ghost use Rattle.writer.specs.Lent.{part, PatternsLent};
+ghost use Rattle.writer.specs.Lent.{NumbersLong, PatternsLent};
 
-use kinds::{Attributes, Counts, Headings, Pairs, TaskSet};
+use crate::tables;
+use kinds::{Attributes, Counts, Headings, Pairs};
 
 // How many bytes a number has.
 fn width(v: u32) -> usize
@@ -24,42 +25,16 @@ fn width(v: u32) -> usize
     3
 }
 
-// How many bytes the first n tasks have.
-fn tasks_length(attributes: &Attributes, n: usize) -> usize
-    requires { n ≤ 64 }
-    ensures { result ≡ length (bytes_in (part attributes.now 0 (4 * n))) }
+// How many bytes numbers have.
+fn numbers_length<T: Copy + Into<u32>>(numbers: &[T]) -> usize
+    requires { length numbers.now ≤ 2048 }
+    ensures { NumbersLong T.converts numbers.now result }
 {
-    let end = TaskSet::OF_TASK * n;
     let mut total: usize = 0;
-    let mut e: usize = 0;
-    while e < end {
-        total += width(attributes[e]);
-        e += 1;
+    for v in numbers {
+        total += width((*v).into());
     }
     total
-}
-
-// How many bytes n pairs have, from pair `start` on.
-fn pairs_length(pairs: &Pairs, start: usize, n: usize) -> usize
-    requires { start + n ≤ 1024 }
-    ensures { result ≡ length (bytes_in (part pairs.now (2 * start) (2 * n))) }
-{
-    let first = TaskSet::OF_PAIR * start;
-    let end = TaskSet::OF_PAIR * n;
-    let mut total: usize = 0;
-    let mut e: usize = 0;
-    while e < end {
-        total += width(kinds::wide16(pairs[first + e]));
-        e += 1;
-    }
-    total
-}
-
-// How many bytes three numbers have.
-fn three_length(a: u32, b: u32, c: u32) -> usize
-    ensures { result ≡ length (bytes_in (a ∷ b ∷ c ∷ [])) }
-{
-    width(a) + width(b) + width(c)
 }
 
 // How many bytes the first n patterns have.
@@ -71,8 +46,9 @@ fn patterns_length(headings: &Headings, pairs: &Pairs, n: usize) -> usize
     let mut used: usize = 0;
     for k in 0..n {
         let p = kinds::pattern_at(headings, k);
-        let count = kinds::wide(p.pairs);
-        total += three_length(p.from, p.to, p.pairs) + pairs_length(pairs, used, count);
+        let count = p.pairs as usize;
+        total += numbers_length(&[p.from, p.to, p.pairs])
+            + numbers_length(tables::pairs_of(pairs, used, count));
         used += count;
     }
     total
@@ -88,5 +64,6 @@ pub(crate) fn head_length(
     requires { sound (lent_set f attributes.now headings.now pairs.now) ≡ true }
     ensures { (result ≡ length (head_bytes (lent_set f attributes.now headings.now pairs.now))) × (result ≤ 7492) }
 {
-    4 + tasks_length(attributes, f.tasks) + patterns_length(headings, pairs, f.patterns)
+    4 + numbers_length(tables::tasks_of(attributes, f.tasks))
+        + patterns_length(headings, pairs, f.patterns)
 }

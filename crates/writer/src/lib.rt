@@ -12,6 +12,7 @@ use kinds::{Attributes, Counts, Headings, Pairs, TaskSet};
 
 mod bytes;
 mod lengths;
+mod tables;
 
 // Why a file is not written.
 #[derive(Clone, Copy)]

@@ -9,8 +9,5 @@ returns-then-f-eq0 c = not_written _ _ _ (counts_none _ c.counts_of-f.ensures c.
 pub write_tables-requires : goal.write_tables-requires
 write_tables-requires c = lent_found _ (counts_found _ c.counts_of-f.ensures c.if-f-eq0.false)
 
-pub shape_of-out : goal.shape_of-out
-shape_of-out c = c.out-1.given
-
 pub returns : goal.returns
 returns c = c.write_tables.ensures ∙ lent_written _ (counts_found _ c.counts_of-f.ensures c.if-f-eq0.false) _ _

@@ -9,8 +9,5 @@ returns-then-f-eq0 c = no_head_written _ _ _ _ c.read_whole-f.ensures _ c.if-f-e
 pub write_tables-requires : goal.write_tables-requires
 write_tables-requires c = whole_found _ _ _ c.read_whole-f.ensures c.if-f-eq0.false
 
-pub shape_of-out : goal.shape_of-out
-shape_of-out c = c.out-1.given
-
 pub returns : goal.returns
 returns c = c.write_tables.ensures ∙ head_written _ _ _ _ c.read_whole-f.ensures _ c.if-f-eq0.false

@@ -1,7 +1,5 @@
-use mathlib.Core.Path.{◌∙◌}
 use Rattle.std.proofs.lemmas.Result.{err_from_is_err_and}
 use Rattle.kinds.specs.Build.{lent_set}
-use Rattle.writer.specs.Wrote.{wrote_long}
 use Rattle.writer.proofs.Order.{head_room, slots_room, all_written, kept}
 use Rattle.writer.proofs.write_tables.Goals as goal
 
@@ -13,9 +11,6 @@ emit_head-at-requires c = (c.requires.is_sound, head_room (lent_set c.args.f c.a
 
 pub emit_slots-requires : goal.emit_slots-requires
 emit_slots-requires c = slots_room (lent_set c.args.f c.args.attributes.now c.args.headings.now c.args.pairs.now) c.args.plan.now c.args.out.now c.answer.ensures c.in_ok-n.was c.emit_head-at.ensures
-
-pub shape_of-out : goal.shape_of-out
-shape_of-out c = wrote_long c.emit_slots.ensures ∙ wrote_long c.emit_head-at.ensures
 
 pub returns-in_err-n : goal.returns-in_err-n
 returns-in_err-n c = let p = err_from_is_err_and c.from_residual.result c.from_residual.ensures.1 in rw (p.1, p.2) (kept (lent_set c.args.f c.args.attributes.now c.args.headings.now c.args.pairs.now) c.args.plan.now c.args.out.now c.answer.ensures c.in_err-n.was)
