@@ -33,6 +33,8 @@ use Rattle.reader.specs.declared.Taking.{Taking}
 use Rattle.reader.specs.Files.{taken_of, whole_read, whole_from}
 use Rattle.reader.proofs.WholeLaws.{whole_none, whole_some}
 use Rattle.reader.proofs.ReadLaws.{none_sound}
+use Rattle.writer.specs.declared.tables.Tables.{Tables}
+use Rattle.writer.specs.Lent.{set_in}
 use Rattle.writer.specs.Wrote.{Wrote, wrote_both, wrote_long}
 
 -- ---- 10
@@ -41,9 +43,12 @@ unfolding written_of rules first_of
 bad_set s slots room e = rw e
 
 -- ---- 11, 12 and 18
-module _ (f : Counts) (xs hs ps slots : List ℕ) (room : ℕ) (c : CountsFound (lent_set f xs hs ps) f) where
+module _ (t : Tables) (slots : List ℕ) (room : ℕ) (c : CountsFound (set_in t) t.counts) where
   abbrev s : Set
-  s = lent_set f xs hs ps
+  s = set_in t
+
+  abbrev f : Counts
+  f = t.counts
 
   found : Sound s
   found = sound_facts s c.is_sound

@@ -2,16 +2,16 @@
 ghost use Rattle.std.specs.Prelude.{◌≡◌, true, [], ◌∷◌, ℕ, ◌+◌, ◌*◌, ◌<◌, ◌≤◌, length, get_or};
 ghost use Rattle.vocabulary.specs.Table.{join};
 ghost use Rattle.kinds.specs.Tasks.{patterns_of};
-ghost use Rattle.kinds.specs.Build.{lent_set};
 ghost use Rattle.kinds.specs.Sound.{sound};
 ghost use Rattle.numbers.specs.Numbers.{number_bytes};
 ghost use Rattle.writer.specs.Format.{bytes_in, head_bytes};
 ghost use Rattle.writer.specs.FormatLaws.{pattern_bytes};
-ghost use Rattle.writer.specs.Lent.{NumbersLent, PatternsLent};
+ghost use Rattle.writer.specs.Lent.{NumbersLent, PatternsLent, set_in};
 ghost use Rattle.writer.specs.Wrote.{Wrote, NumbersWrote};
 
 use crate::tables;
-use kinds::{Attributes, Counts, Headings, Pairs};
+use crate::tables::Tables;
+use kinds::{Headings, Pairs};
 
 // A number, in its shortest form.
 fn emit_number(out: &mut [u8], at: usize, v: u32) -> usize
@@ -62,22 +62,18 @@ fn emit_patterns(out: &mut [u8], at: usize, headings: &Headings, pairs: &Pairs, 
     next
 }
 
-// The head, from the start of the buffer on.
-pub(crate) fn emit_head(
-    out: &mut [u8],
-    f: Counts,
-    attributes: &Attributes,
-    headings: &Headings,
-    pairs: &Pairs,
-) -> usize
-    requires { (sound (lent_set f attributes.now headings.now pairs.now) ≡ true)
-        × (length (head_bytes (lent_set f attributes.now headings.now pairs.now)) ≤ length out.old) }
-    ensures { Wrote out.old 0 (head_bytes (lent_set f attributes.now headings.now pairs.now)) out.new result }
-{
-    let p = emit_numbers(out, 0, &[f.edition, f.tasks as u32, f.processors]);
-    let q = emit_numbers(out, p, tables::tasks_of(attributes, f.tasks));
-    let r = emit_number(out, q, f.patterns as u32);
-    emit_patterns(out, r, headings, pairs, f.patterns)
+impl Tables<'_> {
+    // The head, from the start of the buffer on.
+    pub(crate) fn emit_head(self, out: &mut [u8]) -> usize
+        requires { (sound (set_in self) ≡ true) × (length (head_bytes (set_in self)) ≤ length out.old) }
+        ensures { Wrote out.old 0 (head_bytes (set_in self.entry)) out.new result }
+    {
+        let f = self.counts;
+        let p = emit_numbers(out, 0, &[f.edition, f.tasks as u32, f.processors]);
+        let q = emit_numbers(out, p, tables::tasks_of(self.attributes, f.tasks));
+        let r = emit_number(out, q, f.patterns as u32);
+        emit_patterns(out, r, self.headings, self.pairs, f.patterns)
+    }
 }
 
 // The slots.

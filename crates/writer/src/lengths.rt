@@ -2,15 +2,15 @@
 ghost use Rattle.std.specs.Prelude.{◌≡◌, true, [], ◌∷◌, ◌+◌, ◌*◌, ◌≤◌, length};
 ghost use Rattle.vocabulary.specs.Table.{join};
 ghost use Rattle.kinds.specs.Tasks.{patterns_of};
-ghost use Rattle.kinds.specs.Build.{lent_set};
 ghost use Rattle.kinds.specs.Sound.{sound};
 ghost use Rattle.numbers.specs.Numbers.{number_bytes};
 ghost use Rattle.writer.specs.Format.{bytes_in, head_bytes};
 ghost use Rattle.writer.specs.FormatLaws.{pattern_bytes};
-ghost use Rattle.writer.specs.Lent.{NumbersLong, PatternsLent};
+ghost use Rattle.writer.specs.Lent.{NumbersLong, PatternsLent, set_in};
 
 use crate::tables;
-use kinds::{Attributes, Counts, Headings, Pairs};
+use crate::tables::Tables;
+use kinds::{Headings, Pairs};
 
 // How many bytes a number has.
 fn width(v: u32) -> usize
@@ -54,16 +54,13 @@ fn patterns_length(headings: &Headings, pairs: &Pairs, n: usize) -> usize
     total
 }
 
-// How many bytes the head has. Edition, task count, m and pattern count are below 128: a byte each.
-pub(crate) fn head_length(
-    f: Counts,
-    attributes: &Attributes,
-    headings: &Headings,
-    pairs: &Pairs,
-) -> usize
-    requires { sound (lent_set f attributes.now headings.now pairs.now) ≡ true }
-    ensures { (result ≡ length (head_bytes (lent_set f attributes.now headings.now pairs.now))) × (result ≤ 7492) }
-{
-    4 + numbers_length(tables::tasks_of(attributes, f.tasks))
-        + patterns_length(headings, pairs, f.patterns)
+impl Tables<'_> {
+    // How many bytes the head has. Edition, task count, m and pattern count are below 128: a byte each.
+    pub(crate) fn head_length(self) -> usize
+        requires { sound (set_in self) ≡ true }
+        ensures { (result ≡ length (head_bytes (set_in self.entry))) × (result ≤ 7492) }
+    {
+        4 + numbers_length(tables::tasks_of(self.attributes, self.counts.tasks))
+            + patterns_length(self.headings, self.pairs, self.counts.patterns)
+    }
 }

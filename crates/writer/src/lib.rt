@@ -3,12 +3,13 @@
 
 ghost use Rattle.std.specs.Prelude.{◌≡◌, get_or};
 ghost use Rattle.kinds.specs.Tasks.{view};
-ghost use Rattle.kinds.specs.Build.{lent_set};
 ghost use Rattle.kinds.specs.SoundByTests.{CountsFound};
+ghost use Rattle.writer.specs.Lent.{set_in};
 ghost use Rattle.writer.specs.Answers.{number_of, evidence_of};
 ghost use Rattle.writer.specs.Writing.{written_of, write_leaves, write_for, written_head, write_head_for};
 
-use kinds::{Attributes, Counts, Headings, Pairs, TaskSet};
+use kinds::TaskSet;
+use tables::Tables;
 
 mod bytes;
 mod lengths;
@@ -24,61 +25,54 @@ pub enum WriteError {
     TooShort,
 }
 
-// What is answered for the numbers and tables of a sound set, a plan and a buffer of so many bytes: the first of 11, 12 and 18, or the file's length. The
-// tables have one lifetime, so that the fields of one set can be lent together.
-fn answer<'a>(
-    f: Counts,
-    attributes: &'a Attributes,
-    headings: &'a Headings,
-    pairs: &'a Pairs,
-    plan: &[u8],
-    room: usize,
-) -> Result<usize, WriteError>
-    requires { CountsFound (lent_set f attributes.now headings.now pairs.now) f }
-    ensures { result ≡ written_of (lent_set f attributes.now headings.now pairs.now) plan.now room }
-{
-    if plan.len() != f.processors as usize * f.ticks as usize {
-        return Err(WriteError::WrongLength);
+impl Tables<'_> {
+    // What is answered for a sound set, a plan and a buffer of so many bytes: the first of 11, 12 and 18, or the file's length.
+    fn answer(self, plan: &[u8], room: usize) -> Result<usize, WriteError>
+        requires { CountsFound (set_in self) self.counts }
+        ensures { result ≡ written_of (set_in self.entry) plan.now room }
+    {
+        let f = self.counts;
+        if plan.len() != f.processors as usize * f.ticks as usize {
+            return Err(WriteError::WrongLength);
+        }
+        let e = slots::first_high(plan, f.tasks);
+        if e < plan.len() {
+            return Err(WriteError::BadSlot(e));
+        }
+        let length = self.head_length() + plan.len();
+        if room < length {
+            return Err(WriteError::TooShort);
+        }
+        Ok(length)
     }
-    let e = slots::first_high(plan, f.tasks);
-    if e < plan.len() {
-        return Err(WriteError::BadSlot(e));
-    }
-    let length = lengths::head_length(f, attributes, headings, pairs) + plan.len();
-    if room < length {
-        return Err(WriteError::TooShort);
-    }
-    Ok(length)
-}
 
-// The file of the numbers and tables of a sound set and a plan, where nothing is refused.
-fn write_tables<'a>(
-    f: Counts,
-    attributes: &'a Attributes,
-    headings: &'a Headings,
-    pairs: &'a Pairs,
-    plan: &[u8],
-    out: &mut [u8],
-) -> Result<usize, WriteError>
-    requires { CountsFound (lent_set f attributes.now headings.now pairs.now) f }
-    ensures { write_leaves result out.new
-        ≡ write_for (lent_set f attributes.now headings.now pairs.now) plan.now out.old }
-{
-    let n = answer(f, attributes, headings, pairs, plan, out.len())?;
-    let at = bytes::emit_head(out, f, attributes, headings, pairs);
-    bytes::emit_slots(out, at, plan);
-    Ok(n)
+    // Writes the file of a sound set and a plan, where nothing is refused.
+    fn write(self, plan: &[u8], out: &mut [u8]) -> Result<usize, WriteError>
+        requires { CountsFound (set_in self) self.counts }
+        ensures { write_leaves result out.new ≡ write_for (set_in self.entry) plan.now out.old }
+    {
+        let n = self.answer(plan, out.len())?;
+        let at = self.emit_head(out);
+        bytes::emit_slots(out, at, plan);
+        Ok(n)
+    }
 }
 
 // Writes the file of a set and a plan. A refusal, the first of 10, 11, 12 and 18, leaves the buffer as it is.
 pub fn write(set: TaskSet, plan: &[u8], out: &mut [u8]) -> Result<usize, WriteError>
     ensures { write_leaves result out.new ≡ write_for (view set) plan.now out.old }
 {
-    let f = kinds::counts_of(set);
-    if f.ticks == 0 {
+    let counts = kinds::counts_of(set);
+    if counts.ticks == 0 {
         return Err(WriteError::BadSet);
     }
-    write_tables(f, &set.attributes, &set.headings, &set.pairs, plan, out)
+    let tables = Tables {
+        counts,
+        attributes: &set.attributes,
+        headings: &set.headings,
+        pairs: &set.pairs,
+    };
+    tables.write(plan, out)
 }
 
 // The same on tasks as a file's head.
@@ -88,11 +82,17 @@ pub fn write_head(tasks: &[u8], plan: &[u8], out: &mut [u8]) -> Result<usize, Wr
     let mut attributes = [0u32; 256];
     let mut headings = [0u32; 192];
     let mut pairs = [0u16; 2048];
-    let f = reader::read_whole(tasks, &mut attributes, &mut headings, &mut pairs);
-    if f.ticks == 0 {
+    let counts = reader::read_whole(tasks, &mut attributes, &mut headings, &mut pairs);
+    if counts.ticks == 0 {
         return Err(WriteError::BadSet);
     }
-    write_tables(f, &attributes, &headings, &pairs, plan, out)
+    let tables = Tables {
+        counts,
+        attributes: &attributes,
+        headings: &headings,
+        pairs: &pairs,
+    };
+    tables.write(plan, out)
 }
 
 // What `write_head` answers for a buffer of so many bytes.
@@ -102,11 +102,17 @@ pub fn written_head(tasks: &[u8], plan: &[u8], room: usize) -> Result<usize, Wri
     let mut attributes = [0u32; 256];
     let mut headings = [0u32; 192];
     let mut pairs = [0u16; 2048];
-    let f = reader::read_whole(tasks, &mut attributes, &mut headings, &mut pairs);
-    if f.ticks == 0 {
+    let counts = reader::read_whole(tasks, &mut attributes, &mut headings, &mut pairs);
+    if counts.ticks == 0 {
         return Err(WriteError::BadSet);
     }
-    answer(f, &attributes, &headings, &pairs, plan, room)
+    let tables = Tables {
+        counts,
+        attributes: &attributes,
+        headings: &headings,
+        pairs: &pairs,
+    };
+    tables.answer(plan, room)
 }
 
 // The number of an answer: 0, 10, 11, 12 or 18.

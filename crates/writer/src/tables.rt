@@ -1,10 +1,18 @@
-// The numbers of a set's tables, in their order in a file.
+// A set as it is lent: its counts and its tables, and their numbers in the order of a file.
 ghost use Rattle.std.specs.Prelude.{◌≡◌, ◌+◌, ◌*◌, ◌≤◌};
 ghost use Rattle.writer.specs.Lent.{part};
 
-use kinds::{Attributes, Pairs, TaskSet};
+use kinds::{Attributes, Counts, Headings, Pairs, TaskSet};
 
-// Those of the first n tasks.
+#[derive(Clone, Copy)]
+pub(crate) struct Tables<'a> {
+    pub(crate) counts: Counts,
+    pub(crate) attributes: &'a Attributes,
+    pub(crate) headings: &'a Headings,
+    pub(crate) pairs: &'a Pairs,
+}
+
+// The numbers of the first n tasks.
 pub(crate) fn tasks_of(attributes: &Attributes, n: usize) -> &[u32]
     requires { n ≤ 64 }
     ensures { result.now ≡ part attributes.now 0 (4 * n) }
@@ -12,7 +20,7 @@ pub(crate) fn tasks_of(attributes: &Attributes, n: usize) -> &[u32]
     &attributes[..TaskSet::OF_TASK * n]
 }
 
-// Those of n pairs, from pair `start` on.
+// The numbers of n pairs, from pair `start` on.
 pub(crate) fn pairs_of(pairs: &Pairs, start: usize, n: usize) -> &[u16]
     requires { start + n ≤ 1024 }
     ensures { result.now ≡ part pairs.now (2 * start) (2 * n) }
