@@ -1,5 +1,5 @@
 -- What can be asked of the definitions, and what they answer, in the numbers of docs/RULES.md.
-use Rattle.std.specs.Prelude.{◌≡◌, List, [], ◌∷◌, map, ℕ, suc, ◌+◌, ◌^◌, eqb, ℤ, length, get_or}
+use Rattle.std.specs.Prelude.{◌≡◌, List, [], ◌∷◌, map, ℕ, suc, ◌+◌, ◌^◌, eqb, ℤ, length, get_or, Result}
 use Rattle.vocabulary.specs.Test.{pick}
 use Rattle.vocabulary.specs.Table.{table, gather}
 use Rattle.kinds.specs.Tasks.{Tasks, Set, tasks_of, patterns_of, deadline}
@@ -12,7 +12,7 @@ use Rattle.numbers.specs.Answers.{numeral_number, numeral_evidence}
 use Rattle.numbers.specs.declared.Number.{Number}
 use Rattle.numbers.specs.Numbers.{number_at}
 use Rattle.reader.specs.Answers as readerAnswers
-use Rattle.writer.specs.declared.Written.{Written}
+use Rattle.writer.specs.declared.WriteError.{WriteError}
 use Rattle.writer.specs.Writing.{write_for, write_head_for}
 use Rattle.writer.specs.Answers as writeAnswers
 use Rattle.judge.specs.declared.Verdict.{Verdict}
@@ -98,7 +98,7 @@ adjusted_said a = screenAnswers.adjusted_number a ∷ screenAnswers.adjusted_evi
 abbrev pub verdict_said : Verdict → List ℕ
 verdict_said v = judgeAnswers.number_of v ∷ judgeAnswers.evidence_of v
 
-abbrev pub written_said : Written → List ℕ
+abbrev pub written_said : Result ℕ WriteError → List ℕ
 written_said w = writeAnswers.number_of w ∷ writeAnswers.evidence_of w
 
 abbrev pub step_said : Answer → List ℕ

@@ -1,5 +1,5 @@
 -- Rule R12.5: what the calls for C answer, a number, and one evidence number at a time.
-use Rattle.std.specs.Prelude.{◌≡◌, refl, List, [], ◌∷◌, ℕ, ◌%◌, ℤ, get_or, length}
+use Rattle.std.specs.Prelude.{◌≡◌, refl, List, [], ◌∷◌, ℕ, ◌%◌, ℤ, get_or, length, Result}
 use Rattle.std.proofs.Common.{sym, ap, ◌∙◌}
 use Rattle.vocabulary.specs.First.{from}
 use Rattle.heads.specs.declared.Outcome.{Outcome}
@@ -9,7 +9,7 @@ use Rattle.numbers.specs.declared.Refusal.TheVariants as refusal
 use Rattle.numbers.specs.Answers.{refusal_evidence}
 use Rattle.reader.specs.Answers.{number_of, evidence_of}
 use Rattle.reader.specs.Files.{read_of}
-use Rattle.writer.specs.declared.Written.{Written}
+use Rattle.writer.specs.declared.WriteError.{WriteError}
 use Rattle.writer.specs.Answers as writeAnswers
 use Rattle.writer.specs.Writing.{WriteLeft, write_leaves}
 use Rattle.judge.specs.declared.Verdict.{Verdict}
@@ -56,7 +56,7 @@ pub record WroteLeft (l : WriteLeft) (r : ℕ) (out : List ℕ) : Type 0 where
   pub number : r ≡ writeAnswers.number_of l.answer
   pub left : out ≡ l.out
 
-pub wrote : {l : WriteLeft} {w : Written} {r : ℕ} {out : List ℕ} → write_leaves w out ≡ l → r ≡ writeAnswers.number_of w → WroteLeft l r out
+pub wrote : {l : WriteLeft} {w : Result ℕ WriteError} {r : ℕ} {out : List ℕ} → write_leaves w out ≡ l → r ≡ writeAnswers.number_of w → WroteLeft l r out
 wrote e n =
     record {
       number = n ∙ ap (λ (x : WriteLeft). writeAnswers.number_of x.answer) e;

@@ -11,7 +11,6 @@ use kinds::TaskSet;
 use std::env::Env;
 use std::fs::Files;
 use std::io::Result;
-use writer::Written;
 
 fn are_same(a: &[u8], b: &[u8]) -> bool
     ensures { (result ≡ true) ↔ (a.now ≡ b.now) }
@@ -53,9 +52,9 @@ fn write_anew(
     let mut out = io::large_buffer();
     let w = writer::write(set, plan, &mut out);
     match w {
-        Written::Length(n) => hand_on(rt, file, &out[..n]),
-        _ => {
-            let line = Line::new().put_number(writer::number_of(w) as u64);
+        Ok(n) => hand_on(rt, file, &out[..n]),
+        Err(_) => {
+            let line = Line::new().put_number(u64::from(writer::number_of(w)));
             line.put(b" the writer refuses what was read\n").print(rt)
         }
     }

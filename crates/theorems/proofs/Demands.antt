@@ -1,7 +1,7 @@
 -- The three demands on one page, over the bytes that an executive has. A call's outcome is a definition of its input: `start_for`, `step_for`, `judged_of`,
 -- `screened_of`, `write_head_for`; of the call for adjusted times, `AdjustedBy` says it of number and buffers. That the calls have these outcomes is what their contracts say
 -- (crates/flute/src), for every input and without a fault. What is supposed stands before the last arrow, by its name; the proof is the line below.
-use Rattle.std.specs.Prelude.{◌≡◌, Bool, true, false, List, ◌↔◌, ℕ, ◌≤◌, ◌<◌, ℤ, length}
+use Rattle.std.specs.Prelude.{◌≡◌, Bool, true, false, List, ◌↔◌, ℕ, ◌≤◌, ◌<◌, ℤ, length, Result, Ok, Err}
 use Rattle.std.proofs.Math.Path.{refl}
 use Rattle.std.proofs.Common.{ap, ◌∙◌}
 use Rattle.vocabulary.specs.Test.{pick}
@@ -10,8 +10,7 @@ use Rattle.kinds.specs.Tasks.{Set, view}
 use Rattle.kinds.specs.Plans.{plan_of}
 use Rattle.kinds.specs.JobTicks.{Gets}
 use Rattle.reader.specs.Files.{taken_of}
-use Rattle.writer.specs.declared.Written.{Written}
-use Rattle.writer.specs.declared.Written.TheVariants as written
+use Rattle.writer.specs.declared.WriteError.{WriteError}
 use Rattle.writer.specs.Answers as writeAnswers
 use Rattle.writer.specs.Format.{bytes_of}
 use Rattle.writer.specs.Writing.{written_of, left_in, write_for, write_head_for}
@@ -89,12 +88,9 @@ pub write_refused : (tasks plan out : List ℕ) (refused : writeAnswers.number_o
 unfolding write_head_for write_for left_in
 write_refused tasks plan out refused = by (written_of (view (taken_of tasks).set) plan (length out)) refused
   where
-    by : (w : Written) → (writeAnswers.number_of w ≡ 0 → ⊥) → left_in w (bytes_of (view (taken_of tasks).set) plan) out ≡ out
-    by (written.Length n) h = absurd (h refl)
-    by written.BadSet h = refl
-    by written.WrongLength h = refl
-    by (written.BadSlot e) h = refl
-    by written.TooShort h = refl
+    by : (w : Result ℕ WriteError) → (writeAnswers.number_of w ≡ 0 → ⊥) → left_in w (bytes_of (view (taken_of tasks).set) plan) out ≡ out
+    by (Ok n) h = absurd (h refl)
+    by (Err e) h = refl
 
 -- ==== Demand 2. The judge answers 0 exactly if the tasks are a head and nothing more and the plan is right for ever (`Right`, kinds `Valid`);
 pub judge_accepts_right : (tasks plan : List ℕ) → (judgeAnswers.number_of (judged_of tasks plan) ≡ 0) ↔ Right tasks plan

@@ -1,5 +1,5 @@
 -- What a plan file is: a byte string is read exactly when it is the bytes of a sound set and of a plan for it; and the two round trips of reader and writer.
-use Rattle.std.specs.Prelude.{◌≡◌, refl, Bool, true, false, List, ◌++◌, ◌⊎◌, ◌↔◌, ℕ, ◌+◌, ◌*◌, ◌<◌, ◌≤◌, length, get_or, take, drop, eqb}
+use Rattle.std.specs.Prelude.{◌≡◌, refl, Bool, true, false, List, ◌++◌, ◌⊎◌, ◌↔◌, ℕ, ◌+◌, ◌*◌, ◌<◌, ◌≤◌, length, get_or, take, drop, eqb, Ok}
 use Rattle.std.proofs.Common.{sym, ap, ◌∙◌, subst, inl, inr, arith, ext_get_or, take_at, drop_at, le-ltb, eqb-true}
 use Rattle.vocabulary.specs.Test.{pick}
 use Rattle.vocabulary.proofs.Test.{clash, lt_or_le}
@@ -29,7 +29,6 @@ use Rattle.reader.specs.declared.Taking.{Taking}
 use Rattle.reader.specs.Answers.{number_of}
 use Rattle.reader.specs.Files.{loaded, read_of, not_taken, take_head, taken_of}
 use Rattle.reader.proofs.ReadLaws.{read_blank, taking}
-use Rattle.writer.specs.declared.Written.TheVariants as written
 use Rattle.writer.specs.Format.{head_bytes, bytes_of}
 use Rattle.writer.specs.Writing.{written_of, left_in, write_leaves, write_for, write_head_for}
 use Rattle.writer.proofs.Order.{answered, answers}
@@ -120,12 +119,12 @@ pub record ReadsBack (s : Set) (slots file : List ℕ) : Type 0 where
   pub set : Agree s (view (read_of file).set)
   pub plan : drop (length (head_bytes s)) file ≡ slots
 
-left_file : (s : Set) (slots out : List ℕ) (n : ℕ) → written_of s slots (length out) ≡ written.Length n → take n (write_for s slots out).out ≡ bytes_of s slots
+left_file : (s : Set) (slots out : List ℕ) (n : ℕ) → written_of s slots (length out) ≡ Ok n → take n (write_for s slots out).out ≡ bytes_of s slots
 unfolding write_for left_in
 left_file s slots out n e = let w = answered s slots (length out) n e in rw e (take_at (bytes_of s slots) (drop n out) n w.is)
 
 -- ==== Reading what was written gives the same set and the same plan.
-pub read_write : (s : Set) (slots out : List ℕ) (n : ℕ) → written_of s slots (length out) ≡ written.Length n
+pub read_write : (s : Set) (slots out : List ℕ) (n : ℕ) → written_of s slots (length out) ≡ Ok n
     → ReadsBack s slots (take n (write_for s slots out).out)
 unfolding bytes_of
 read_write s slots out n e =
@@ -135,7 +134,7 @@ read_write s slots out n e =
     (record { read = r.0; set = r.1; plan = drop_at (head_bytes s) slots (length (head_bytes s)) refl })
 
 -- ==== No file that is written has more bytes than one that is read: 52,868 always do.
-pub longest_written : (s : Set) (slots : List ℕ) (room n : ℕ) → written_of s slots room ≡ written.Length n → n ≤ 52868
+pub longest_written : (s : Set) (slots : List ℕ) (room n : ℕ) → written_of s slots room ≡ Ok n → n ≤ 52868
 longest_written s slots room n e =
     let w = answered s slots room n e in
     let r = file_read_lem s slots w.is_sound w.long (λ j l. all_low slots s.tasks.count w.none_high j) in
@@ -146,7 +145,7 @@ module _ (file : List ℕ) (bytes : Bytes file) (p : ℕ) (e : (read_of file).ou
   abbrev read : Set
   read = view (read_of file).set
 
-  answer : written_of read (drop p file) (length out) ≡ written.Length (length file)
+  answer : written_of read (drop p file) (length out) ≡ Ok (length file)
   answer =
       let t = parts_at file p e in
       answers read (drop p file) (length out) (length file)
@@ -158,12 +157,12 @@ module _ (file : List ℕ) (bytes : Bytes file) (p : ℕ) (e : (read_of file).ou
         fits = room;
       })
 
-  pub write_read : write_for read (drop p file) out ≡ write_leaves (written.Length (length file)) (file ++ drop (length file) out)
+  pub write_read : write_for read (drop p file) out ≡ write_leaves (Ok (length file)) (file ++ drop (length file) out)
   unfolding write_for left_in
   write_read = let f = file_form file bytes p e in rw (answer, ← f.1)
 
   -- and from C, with the file's two parts
-  pub write_head_read : write_head_for (take p file) (drop p file) out ≡ write_leaves (written.Length (length file)) (file ++ drop (length file) out)
+  pub write_head_read : write_head_for (take p file) (drop p file) out ≡ write_leaves (Ok (length file)) (file ++ drop (length file) out)
   unfolding write_head_for
   write_head_read = rw (ap (λ (t : Taking). t.set) (parts_at file p e).tasks) write_read
 
@@ -196,6 +195,6 @@ tasks_are_head tasks bytes e =
 
 -- so what is written for C is the tasks and, behind them, the plan.
 pub write_joins : (tasks plan out : List ℕ) (n : ℕ) → Bytes tasks → (taken_of tasks).fits ≡ true
-    → written_of (view (taken_of tasks).set) plan (length out) ≡ written.Length n → (write_head_for tasks plan out).out ≡ tasks ++ plan ++ drop n out
+    → written_of (view (taken_of tasks).set) plan (length out) ≡ Ok n → (write_head_for tasks plan out).out ≡ tasks ++ plan ++ drop n out
 unfolding write_head_for write_for left_in bytes_of
 write_joins tasks plan out n bytes taken e = rw (e, tasks_are_head tasks bytes taken)

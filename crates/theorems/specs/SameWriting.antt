@@ -1,5 +1,5 @@
 -- Two sets that agree on what counts are written alike: the same answer, and the same bytes in the buffer.
-use Rattle.std.specs.Prelude.{◌≡◌, refl, eqb, length}
+use Rattle.std.specs.Prelude.{◌≡◌, refl, eqb, length, Result, Ok, Err}
 use Rattle.std.proofs.Math.Path.{ap, ap₂}
 use Rattle.std.proofs.Common.{◌∙◌}
 use Rattle.std.proofs.Math.Bool.{Bool, not}
@@ -17,8 +17,8 @@ use Rattle.kinds.specs.Tasks.{Set, pair_count, pairs_before, pairs_in}
 use Rattle.kinds.proofs.PatternWalk.{before_more}
 use Rattle.kinds.proofs.WhatCounts.{Agree, before_agree, cycle_agree, sound_agree}
 use Rattle.slots.specs.High.{high}
-use Rattle.writer.specs.declared.Written.{Written}
-use Rattle.writer.specs.declared.Written.TheVariants as written
+use Rattle.writer.specs.declared.WriteError.{WriteError}
+use Rattle.writer.specs.declared.WriteError.TheVariants as writeError
 use Rattle.writer.specs.Format.{task_numbers, pair_numbers, pattern_numbers, head_numbers, head_bytes, bytes_of}
 use Rattle.writer.proofs.Turns.{two_same, four_same}
 use Rattle.writer.specs.Writing.{rules, written_of, write_for}
@@ -82,11 +82,11 @@ module _ (s t : Set) (g : Agree s t) where
       let any : ℕ → Bool = λ n. some (high slots n) (length slots) in
       let long : ℕ → ℕ → Bool = λ m h. not (eqb (length slots) (m * h)) in
       let short : List ℕ → Bool = λ f. ltb room (length f) in
-      let last : List ℕ → Written = λ f. written.Length (length f) in
+      let last : List ℕ → Result ℕ WriteError = λ f. Ok (length f) in
       ap (first_of (rules s slots room)) (ap last (same_file slots))
       ∙ first_same _ _ _ _ _ (ap not (sound_agree s t g)) (λ e. refl)
       (λ e. first_same _ _ _ _ _ (ap₂ long g.processors (cycle_agree s t g)) (λ a. refl)
-      (λ a. first_same _ _ _ _ _ (ap any g.task_count) (λ b. ap (λ (n : ℕ). written.BadSlot (top n)) g.task_count)
+      (λ a. first_same _ _ _ _ _ (ap any g.task_count) (λ b. ap (λ (n : ℕ). Err (writeError.BadSlot (top n))) g.task_count)
       (λ b. first_same _ _ _ _ _ (ap short (same_file slots)) (λ c. refl) (λ c. refl))))
 
   -- ==== and are written alike.

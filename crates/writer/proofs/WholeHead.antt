@@ -8,20 +8,26 @@ use lib.ListN.{length, get_or, length-append}
 use Rattle.vocabulary.specs.Table.{join}
 use Rattle.kinds.specs.declared.Counts.{Counts}
 use Rattle.kinds.specs.Tasks.{Set}
-use Rattle.kinds.specs.Build.{lent_set, lent_patterns}
 use Rattle.kinds.specs.Sound.{sound}
 use Rattle.kinds.proofs.SoundFacts.{Sound, sound_facts}
 use Rattle.numbers.specs.Numbers.{number_bytes}
 use Rattle.writer.specs.Format.{task_numbers, bytes_in, head_bytes}
 use Rattle.writer.specs.FormatLaws.{bytes_join, pattern_bytes, head_bytes_lem}
-use Rattle.writer.specs.Lent.{part, PatternsLent}
+use Rattle.writer.specs.declared.lent.Lent.{Lent}
+use Rattle.writer.specs.Lent.{part, set_in, PatternsLent}
 use Rattle.writer.specs.Wrote.{Wrote, wrote_both, wrote_long}
 use Rattle.writer.proofs.Widths.{width_one, three_long}
 use Rattle.writer.proofs.Turns.{tasks_part}
 
-module _ (f : Counts) (xs hs ps : List ℕ) (ok : sound (lent_set f xs hs ps) ≡ true) where
+module _ (t : Lent) (ok : sound (set_in t) ≡ true) where
   abbrev s : Set
-  s = lent_set f xs hs ps
+  s = set_in t
+
+  abbrev f : Counts
+  f = t.counts
+
+  abbrev xs : List ℕ
+  xs = t.tables.now.attributes
 
   facts : Sound s
   facts = sound_facts s ok
@@ -39,7 +45,7 @@ module _ (f : Counts) (xs hs ps : List ℕ) (ok : sound (lent_set f xs hs ps) �
   pub low_processors : f.processors < 128
   low_processors = omega (arith, facts.few_processors)
 
-  pub patterns_lent : PatternsLent (lent_patterns f hs ps)
+  pub patterns_lent : PatternsLent (s.patterns)
   patterns_lent =
       record {
         few = facts.few_patterns;
@@ -49,8 +55,8 @@ module _ (f : Counts) (xs hs ps : List ℕ) (ok : sound (lent_set f xs hs ps) �
       }
 
   -- a number of a task, by its task and its place among the four
-  pub low_tasks : (j : ℕ) → j < 4 * f.tasks → get_or xs j 0 < 2097152
-  low_tasks j l = by (j % 4) refl
+  pub low_tasks : (j : ℕ) → j < 4 * f.tasks → get_or xs (0 + j) 0 < 2097152
+  low_tasks j l = let z : 0 + j ≡ j = omega arith in rw z (by (j % 4) refl)
     where
       i : ℕ
       i = j / 4
@@ -76,7 +82,7 @@ module _ (f : Counts) (xs hs ps : List ℕ) (ok : sound (lent_set f xs hs ps) �
   tasks = bytes_in (part xs 0 (4 * f.tasks))
 
   abbrev patterns : List ℕ
-  patterns = join (pattern_bytes (lent_patterns f hs ps)) f.patterns
+  patterns = join (pattern_bytes (s.patterns)) f.patterns
 
   head_parts : head_bytes s ≡ opening ++ tasks ++ number_bytes f.patterns ++ patterns
   head_parts =

@@ -1,12 +1,18 @@
 -- What the parts of the writer promise: bytes written from a place on, and the place after them.
-use Rattle.std.specs.Prelude.{◌≡◌, refl, List, [], ◌∷◌, ◌++◌, ℕ, suc, ◌+◌, length, set}
+use Rattle.std.specs.Prelude.{◌≡◌, refl, List, [], ◌∷◌, ◌++◌, ℕ, suc, ◌+◌, length, set, map}
 use Rattle.std.proofs.Common.{sym, ap, ◌∙◌, arith, length-append}
 use Rattle.std.proofs.lemmas.List.Edits.{sets}
 use Rattle.std.proofs.Math.Seq.{length-sets}
+use Rattle.writer.specs.Format.{bytes_in}
+use Rattle.writer.specs.Lent.{Gives}
 
 pub record Wrote (old : List ℕ) (at : ℕ) (bytes new : List ℕ) (next : ℕ) : Type 0 where
   pub ends : next ≡ at + length bytes
   pub is : new ≡ sets old at bytes
+
+-- the numbers that a conversion gives, one after another
+abbrev pub NumbersWrote : {T : Type 0} (converts : T → ℕ → Type 0) (numbers : List T) (old : List ℕ) (at : ℕ) (new : List ℕ) (next : ℕ) → Type 0
+NumbersWrote {T} converts numbers old at new next = (value : T → ℕ) → Gives converts value → Wrote old at (bytes_in (map value numbers)) new next
 
 sets_both : (s : List ℕ) (at : ℕ) (xs ys : List ℕ) → sets s at (xs ++ ys) ≡ sets (sets s at xs) (at + length xs) ys
 sets_both s at [] ys = let z : at + 0 ≡ at = omega arith in rw z

@@ -2,15 +2,16 @@
 ghost use Rattle.std.specs.Prelude.{◌≡◌, true, [], ◌∷◌, ℕ, ◌+◌, ◌*◌, ◌<◌, ◌≤◌, length, get_or};
 ghost use Rattle.vocabulary.specs.Table.{join};
 ghost use Rattle.kinds.specs.Tasks.{patterns_of};
-ghost use Rattle.kinds.specs.Build.{lent_set};
 ghost use Rattle.kinds.specs.Sound.{sound};
 ghost use Rattle.numbers.specs.Numbers.{number_bytes};
 ghost use Rattle.writer.specs.Format.{bytes_in, head_bytes};
 ghost use Rattle.writer.specs.FormatLaws.{pattern_bytes};
-ghost use Rattle.writer.specs.Lent.{part, PatternsLent};
-ghost use Rattle.writer.specs.Wrote.{Wrote};
+ghost use Rattle.writer.specs.Lent.{NumbersLent, PatternsLent, set_in};
+ghost use Rattle.writer.specs.Wrote.{Wrote, NumbersWrote};
 
-use kinds::{Attributes, Counts, Headings, Pairs, TaskSet};
+use crate::lent;
+use crate::lent::Lent;
+use kinds::{Headings, Pairs};
 
 // A number, in its shortest form.
 fn emit_number(out: &mut [u8], at: usize, v: u32) -> usize
@@ -31,44 +32,14 @@ fn emit_number(out: &mut [u8], at: usize, v: u32) -> usize
     at + 3
 }
 
-// Three numbers.
-fn emit_three(out: &mut [u8], at: usize, a: u32, b: u32, c: u32) -> usize
-    requires { (a < 2097152) × (b < 2097152) × (c < 2097152) × (at + length (bytes_in (a ∷ b ∷ c ∷ [])) ≤ length out.old) }
-    ensures { Wrote out.old at (bytes_in (a ∷ b ∷ c ∷ [])) out.new result }
+// Numbers, one after another.
+fn emit_numbers<T: Copy + Into<u32>>(out: &mut [u8], at: usize, numbers: &[T]) -> usize
+    requires { NumbersLent T.converts numbers.now at (length out.old) }
+    ensures { NumbersWrote T.converts numbers.now out.old at out.new result }
 {
-    let p = emit_number(out, at, a);
-    let q = emit_number(out, p, b);
-    emit_number(out, q, c)
-}
-
-// The first n tasks.
-fn emit_tasks(out: &mut [u8], at: usize, attributes: &Attributes, n: usize) -> usize
-    requires { (n ≤ 64) × ((j : ℕ) → j < 4 * n → get_or attributes.now j 0 < 2097152)
-        × (at + length (bytes_in (part attributes.now 0 (4 * n))) ≤ length out.old) }
-    ensures { Wrote out.old at (bytes_in (part attributes.now 0 (4 * n))) out.new result }
-{
-    let end = TaskSet::OF_TASK * n;
     let mut next = at;
-    let mut e: usize = 0;
-    while e < end {
-        next = emit_number(out, next, attributes[e]);
-        e += 1;
-    }
-    next
-}
-
-// The n pairs from pair `start` on.
-fn emit_pairs(out: &mut [u8], at: usize, pairs: &Pairs, start: usize, n: usize) -> usize
-    requires { (start + n ≤ 1024) × (at + length (bytes_in (part pairs.now (2 * start) (2 * n))) ≤ length out.old) }
-    ensures { Wrote out.old at (bytes_in (part pairs.now (2 * start) (2 * n))) out.new result }
-{
-    let first = TaskSet::OF_PAIR * start;
-    let end = TaskSet::OF_PAIR * n;
-    let mut next = at;
-    let mut e: usize = 0;
-    while e < end {
-        next = emit_number(out, next, kinds::wide16(pairs[first + e]));
-        e += 1;
+    for v in numbers {
+        next = emit_number(out, next, (*v).into());
     }
     next
 }
@@ -81,34 +52,34 @@ fn emit_patterns(out: &mut [u8], at: usize, headings: &Headings, pairs: &Pairs, 
 {
     let mut next = at;
     let mut used: usize = 0;
-    let mut k: usize = 0;
-    while k < n {
+    for k in 0..n {
         let p = kinds::pattern_at(headings, k);
-        let count = kinds::wide(p.pairs);
-        next = emit_three(out, next, p.from, p.to, p.pairs);
-        next = emit_pairs(out, next, pairs, used, count);
+        let count = p.pairs as usize;
+        let start = emit_numbers(out, next, &[p.from, p.to, p.pairs]);
+        next = emit_numbers(out, start, lent::pairs_of(pairs, used, count));
         used += count;
-        k += 1;
     }
     next
 }
 
-// The head, from the start of the buffer on.
-pub(crate) fn emit_head(
-    out: &mut [u8],
-    f: Counts,
-    attributes: &Attributes,
-    headings: &Headings,
-    pairs: &Pairs,
-) -> usize
-    requires { (sound (lent_set f attributes.now headings.now pairs.now) ≡ true)
-        × (length (head_bytes (lent_set f attributes.now headings.now pairs.now)) ≤ length out.old) }
-    ensures { Wrote out.old 0 (head_bytes (lent_set f attributes.now headings.now pairs.now)) out.new result }
-{
-    let p = emit_three(out, 0, f.edition, f.tasks as u32, f.processors);
-    let q = emit_tasks(out, p, attributes, f.tasks);
-    let r = emit_number(out, q, f.patterns as u32);
-    emit_patterns(out, r, headings, pairs, f.patterns)
+impl Lent<'_> {
+    // The head, from the start of the buffer on.
+    pub(crate) fn emit_head(self, out: &mut [u8]) -> usize
+        requires { (sound (set_in self) ≡ true) × (length (head_bytes (set_in self)) ≤ length out.old) }
+        ensures { Wrote out.old 0 (head_bytes (set_in self.entry)) out.new result }
+    {
+        let f = self.counts;
+        let p = emit_numbers(out, 0, &[f.edition, f.tasks as u32, f.processors]);
+        let q = emit_numbers(out, p, lent::tasks_of(&self.tables.attributes, f.tasks));
+        let r = emit_number(out, q, f.patterns as u32);
+        emit_patterns(
+            out,
+            r,
+            &self.tables.headings,
+            &self.tables.pairs,
+            f.patterns,
+        )
+    }
 }
 
 // The slots.
@@ -116,9 +87,5 @@ pub(crate) fn emit_slots(out: &mut [u8], at: usize, slots: &[u8])
     requires { at + length slots.now ≤ length out.old }
     ensures { Wrote out.old at slots.now out.new (at + length slots.now) }
 {
-    let mut e: usize = 0;
-    while e < slots.len() {
-        out[at + e] = slots[e];
-        e += 1;
-    }
+    out[at..at + slots.len()].copy_from_slice(slots);
 }

@@ -2,14 +2,15 @@
 ghost use Rattle.std.specs.Prelude.{◌≡◌, true, [], ◌∷◌, ◌+◌, ◌*◌, ◌≤◌, length};
 ghost use Rattle.vocabulary.specs.Table.{join};
 ghost use Rattle.kinds.specs.Tasks.{patterns_of};
-ghost use Rattle.kinds.specs.Build.{lent_set};
 ghost use Rattle.kinds.specs.Sound.{sound};
 ghost use Rattle.numbers.specs.Numbers.{number_bytes};
 ghost use Rattle.writer.specs.Format.{bytes_in, head_bytes};
 ghost use Rattle.writer.specs.FormatLaws.{pattern_bytes};
-ghost use Rattle.writer.specs.Lent.{part, PatternsLent};
+ghost use Rattle.writer.specs.Lent.{NumbersLong, PatternsLent, set_in};
 
-use kinds::{Attributes, Counts, Headings, Pairs, TaskSet};
+use crate::lent;
+use crate::lent::Lent;
+use kinds::{Headings, Pairs};
 
 // How many bytes a number has.
 fn width(v: u32) -> usize
@@ -24,42 +25,16 @@ fn width(v: u32) -> usize
     3
 }
 
-// How many bytes the first n tasks have.
-fn tasks_length(attributes: &Attributes, n: usize) -> usize
-    requires { n ≤ 64 }
-    ensures { result ≡ length (bytes_in (part attributes.now 0 (4 * n))) }
+// How many bytes numbers have.
+fn numbers_length<T: Copy + Into<u32>>(numbers: &[T]) -> usize
+    requires { length numbers.now ≤ 2048 }
+    ensures { NumbersLong T.converts numbers.now result }
 {
-    let end = TaskSet::OF_TASK * n;
     let mut total: usize = 0;
-    let mut e: usize = 0;
-    while e < end {
-        total += width(attributes[e]);
-        e += 1;
+    for v in numbers {
+        total += width((*v).into());
     }
     total
-}
-
-// How many bytes n pairs have, from pair `start` on.
-fn pairs_length(pairs: &Pairs, start: usize, n: usize) -> usize
-    requires { start + n ≤ 1024 }
-    ensures { result ≡ length (bytes_in (part pairs.now (2 * start) (2 * n))) }
-{
-    let first = TaskSet::OF_PAIR * start;
-    let end = TaskSet::OF_PAIR * n;
-    let mut total: usize = 0;
-    let mut e: usize = 0;
-    while e < end {
-        total += width(kinds::wide16(pairs[first + e]));
-        e += 1;
-    }
-    total
-}
-
-// How many bytes three numbers have.
-fn three_length(a: u32, b: u32, c: u32) -> usize
-    ensures { result ≡ length (bytes_in (a ∷ b ∷ c ∷ [])) }
-{
-    width(a) + width(b) + width(c)
 }
 
 // How many bytes the first n patterns have.
@@ -69,26 +44,27 @@ fn patterns_length(headings: &Headings, pairs: &Pairs, n: usize) -> usize
 {
     let mut total: usize = 0;
     let mut used: usize = 0;
-    let mut k: usize = 0;
-    while k < n {
+    for k in 0..n {
         let p = kinds::pattern_at(headings, k);
-        let count = kinds::wide(p.pairs);
-        total += three_length(p.from, p.to, p.pairs) + pairs_length(pairs, used, count);
+        let count = p.pairs as usize;
+        total += numbers_length(&[p.from, p.to, p.pairs])
+            + numbers_length(lent::pairs_of(pairs, used, count));
         used += count;
-        k += 1;
     }
     total
 }
 
-// How many bytes the head has. Edition, task count, m and pattern count are below 128: a byte each.
-pub(crate) fn head_length(
-    f: Counts,
-    attributes: &Attributes,
-    headings: &Headings,
-    pairs: &Pairs,
-) -> usize
-    requires { sound (lent_set f attributes.now headings.now pairs.now) ≡ true }
-    ensures { (result ≡ length (head_bytes (lent_set f attributes.now headings.now pairs.now))) × (result ≤ 7492) }
-{
-    4 + tasks_length(attributes, f.tasks) + patterns_length(headings, pairs, f.patterns)
+impl Lent<'_> {
+    // How many bytes the head has. Edition, task count, m and pattern count are below 128: a byte each.
+    pub(crate) fn head_length(self) -> usize
+        requires { sound (set_in self) ≡ true }
+        ensures { (result ≡ length (head_bytes (set_in self.entry))) × (result ≤ 7492) }
+    {
+        4 + numbers_length(lent::tasks_of(&self.tables.attributes, self.counts.tasks))
+            + patterns_length(
+                &self.tables.headings,
+                &self.tables.pairs,
+                self.counts.patterns,
+            )
+    }
 }

@@ -3,14 +3,11 @@ use Rattle.reader.proofs.WholeLaws.{whole_found}
 use Rattle.writer.proofs.Order.{no_head_written, head_written}
 use Rattle.writer.proofs.write_head.Goals as goal
 
-pub returns-then-f-eq0 : goal.returns-then-f-eq0
-returns-then-f-eq0 c = no_head_written _ _ _ _ c.read_whole-f.ensures _ c.if-f-eq0.true
+pub returns-in_default : goal.returns-in_default
+returns-in_default c = no_head_written _ _ _ _ (rw c.new-tables.ensures at c.read_whole.ensures) _ c.in_default.is
 
-pub write_tables-requires : goal.write_tables-requires
-write_tables-requires c = whole_found _ _ _ c.read_whole-f.ensures c.if-f-eq0.false
-
-pub shape_of-out : goal.shape_of-out
-shape_of-out c = c.out-1.given
+pub write-requires : goal.write-requires
+write-requires c = whole_found _ _ _ (rw c.new-tables.ensures at c.read_whole.ensures) c.in-Some.is
 
 pub returns : goal.returns
-returns c = c.write_tables.ensures ∙ head_written _ _ _ _ c.read_whole-f.ensures _ c.if-f-eq0.false
+returns c = c.write.ensures ∙ head_written _ _ _ _ (rw c.new-tables.ensures at c.read_whole.ensures) c.in-Some.is _

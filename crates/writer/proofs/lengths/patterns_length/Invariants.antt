@@ -1,4 +1,4 @@
-use Prim.Native.Nat.{◌+◌, ◌*◌, ◌-◌, ◌≤◌}
+use Prim.Native.Nat.{◌+◌, ◌*◌, ◌≤◌}
 use mathlib.Core.Path.{◌≡◌}
 use lib.ListN.{length}
 use Rattle.vocabulary.specs.Table.{join}
@@ -8,6 +8,3 @@ use Rattle.writer.proofs.lengths.patterns_length.Given as goal
 
 abbrev pub invariant-loop-k : goal.invariant-loop-k
 invariant-loop-k l = (l.k ≤ l.n) × (l.used ≡ pairs_in l.headings l.k) × (l.total ≡ length (join (pattern_bytes (patterns_of l.n l.headings l.pairs)) l.k)) × (l.total ≤ 9 * l.k + 6 * l.used) × (l.used ≤ 1024)
-
-abbrev pub decreases-loop-k : goal.decreases-loop-k
-decreases-loop-k l = l.n - l.k
