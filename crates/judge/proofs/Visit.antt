@@ -96,7 +96,7 @@ pub record SlotWalk (u : Tasks) (p : Plan) (e q c : ℕ) (rows : List (List ℕ)
   pub seen : Seeking (outside u p) (p.cycle * p.processors) e
   pub walked : Walked u p e rows
   pub place : e ≡ c * p.processors + q
-  pub proc : q < p.processors
+  pub proc : q ≤ p.processors
 
 pub walk_from_lem : (u : Tasks) (p : Plan) → Fit u p → (rows : List (List ℕ)) → Fresh (jobs u) rows → SlotWalk u p 0 0 0 rows
 walk_from_lem u p f rows z =
@@ -104,24 +104,23 @@ walk_from_lem u p f rows z =
       seen = seek (outside u p) (p.cycle * p.processors);
       walked = record { noted = tally_from (key u p) (time u p) (Fine u p) (jobs u) rows z };
       place = omega arith;
-      proc = f.some_processors;
+      proc = omega arith;
     }
 
-pub walk_tick : (u : Tasks) (p : Plan) (e q c : ℕ) (rows : List (List ℕ)) → SlotWalk u p e q c rows → c ≡ e / p.processors
-walk_tick u p e q c rows w = sym (row_div c p.processors q w.proc) ∙ ap (λ (x : ℕ). x / p.processors) (sym w.place)
+module _ (u : Tasks) (p : Plan) (e q c : ℕ) (rows : List (List ℕ)) (w : SlotWalk u p e q c rows) where
+  pub walk_tick : q < p.processors → c ≡ e / p.processors
+  walk_tick l = sym (row_div c p.processors q l) ∙ ap (λ (x : ℕ). x / p.processors) (sym w.place)
 
-pub walk_low : (u : Tasks) (p : Plan) → Fit u p → (e q c : ℕ) (rows : List (List ℕ)) → SlotWalk u p e q c rows → e < p.cycle * p.processors
-    → c < p.cycle
-walk_low u p f e q c rows w l = omega (arith, tick_low u p f e l, walk_tick u p e q c rows w)
+  pub walk_low : c < p.cycle → q < p.processors → e < p.cycle * p.processors
+  walk_low l k = omega (arith, w.place, digits_lt l k)
 
-module _ (u : Tasks) (p : Plan) (e q c : ℕ) (rows rows' : List (List ℕ)) (w : SlotWalk u p e q c rows) (l : e < p.cycle * p.processors) (r : Bool) (v : Visited u p e r rows') (er : r ≡ false) where
-  pub walk_along : (q + 1 ≡ p.processors → ⊥) → SlotWalk u p (e + 1) (q + 1) c rows'
-  walk_along z =
-      record { seen = on _ _ e w.seen l (v.out ∙ er); walked = v.next er; place = omega (arith, w.place); proc = omega (arith, w.proc, z) }
+  pub walk_along : q < p.processors → e < p.cycle * p.processors → (rows' : List (List ℕ)) (r : Bool) → Visited u p e r rows' → r ≡ false
+      → SlotWalk u p (e + 1) (q + 1) c rows'
+  walk_along k l rows' r v er = record { seen = on _ _ e w.seen l (v.out ∙ er); walked = v.next er; place = omega (arith, w.place); proc = omega arith }
 
-  pub walk_down : q + 1 ≡ p.processors → SlotWalk u p (e + 1) 0 (c + 1) rows'
-  walk_down z =
-      record { seen = on _ _ e w.seen l (v.out ∙ er); walked = v.next er; place = omega (arith, w.place); proc = omega (arith, w.proc) }
+  -- At the end of a tick it goes on with the next.
+  pub walk_down : p.processors ≤ q → SlotWalk u p e 0 (c + 1) rows
+  walk_down z = record { seen = w.seen; walked = w.walked; place = omega (arith, w.place, w.proc); proc = omega arith }
 
 -- Where no slot lies outside, no tick has one that does.
 pub none_outside : (u : Tasks) (p : Plan) → ((e : ℕ) → e < p.cycle * p.processors → outside u p e ≡ false)

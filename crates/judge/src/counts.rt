@@ -1,6 +1,6 @@
 // Rule 22 (R10.4 in docs/RULES.md): a job gets more or fewer ticks in its window than its C.
 ghost use Rattle.std.specs.Prelude.{◌≡◌};
-ghost use Rattle.vocabulary.specs.Least.{least};
+ghost use Rattle.vocabulary.specs.Least.{lowest};
 ghost use Rattle.kinds.specs.Cycle.{jobs_of};
 ghost use Rattle.judge.specs.Rules.{miscounts};
 ghost use Rattle.judge.specs.Judgement.{verdict_from};
@@ -12,20 +12,18 @@ use crate::links::judge_links;
 use crate::{Lane, Verdict};
 use kinds::{Attributes, Counts, Headings, Pairs};
 
-// The lowest job of a task that gets not its running time, or how many jobs there are.
-fn wrong_job(rows: &[[u32; 3]], l: Lane) -> u32
+// The lowest job of a task that gets not its running time.
+fn wrong_job(rows: &[[u32; 3]], l: Lane) -> Option<u32>
     requires { Tells rows.now l }
-    ensures { (t : Tells rows.now l) → result ≡ least (miscounts t.tasks t.plan t.task) (jobs_of t.tasks t.task) }
+    ensures { (t : Tells rows.now l) → result ≡ lowest (miscounts t.tasks t.plan t.task) (jobs_of t.tasks t.task) }
 {
-    let mut k: u32 = 0;
-    while k < l.jobs {
+    for k in 0..l.jobs {
         let g = got(rows, l, k);
         if g.count != l.task.running {
-            return k;
+            return Some(k);
         }
-        k += 1;
     }
-    k
+    None
 }
 
 // Rules 22 and 23: the lowest job that gets not its running time, and what it gets; where there is none, the links are judged.
@@ -42,15 +40,12 @@ pub(crate) fn judge_counts(
         (lent_patterns f headings.now pairs.now) rows.now)
         → result ≡ verdict_from 22 (lent_tasks f attributes.now) (lent_patterns f headings.now pairs.now) w.plan }
 {
-    let mut i: usize = 0;
-    while i < f.tasks {
+    for i in 0..f.tasks {
         let l = lane_of(f.ticks, attributes, base, i);
-        let k = wrong_job(rows, l);
-        if k < l.jobs {
+        if let Some(k) = wrong_job(rows, l) {
             let g = got(rows, l, k);
             return Verdict::WrongCount(i as u32, k, g.count, g.first as u32, g.last as u32);
         }
-        i += 1;
     }
     judge_links(f, attributes, headings, pairs, base, rows)
 }

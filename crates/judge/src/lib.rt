@@ -77,11 +77,8 @@ fn misplaced(slots: &[u8], m: usize, h: u32, e: usize) -> Verdict
     requires { Worded slots.now m h × (0 < m) × (m ≤ 8) × (e < h * m) }
     ensures { (u : Tasks) → Halted u (plan slots.now m h) e → result ≡ misplaced_verdict u (plan slots.now m h) }
 {
-    let c = twice::first_twice(slots, m, h);
-    if c < h {
-        let q = twice::first_mated(slots, m, h, c);
-        let r = twice::mate_of(slots, m, h, c, q);
-        return Verdict::Twice(c, q as u32, r as u32);
+    if let Some(v) = twice::judge_twice(slots, m, h) {
+        return v;
     }
     Verdict::Outside((e / m) as u32, (e % m) as u32)
 }
@@ -102,14 +99,37 @@ fn judge_rows(
 {
     let mut base = [0u32; 64];
     bases::put_first_jobs(f, attributes, &mut base);
-    let e = walk::sweep(f, attributes, &base, slots, rows);
-    if e < slots.len() {
+    if let Some(e) = walk::sweep(f, attributes, &base, slots, rows) {
         return misplaced(slots, f.processors as usize, f.ticks, e);
     }
     counts::judge_counts(f, attributes, headings, pairs, &base, rows)
 }
 
-// The same, with a table of its own: a set with few jobs pays for a small one.
+// The same, with a table of its own for N jobs at most.
+fn judge_in<const N: usize>(
+    f: Counts,
+    attributes: &Attributes,
+    headings: &Headings,
+    pairs: &Pairs,
+    slots: &[u8],
+) -> Verdict
+    requires { PlanNeeds (lent_tasks f attributes.now) (lent_patterns f headings.now pairs.now) (lent_plan f slots.now)
+        × Fit (lent_tasks f attributes.now) (lent_plan f slots.now) × (f.jobs ≡ jobs (lent_tasks f attributes.now)) × (f.jobs ≤ N) × (N ≤ 2048) }
+    ensures { result ≡ verdict_from 20 (lent_tasks f attributes.now) (lent_patterns f headings.now pairs.now)
+        (lent_plan f slots.now) }
+{
+    let mut rows = [[0u32; 3]; N];
+    judge_rows(
+        f,
+        attributes,
+        headings,
+        pairs,
+        slots,
+        &mut rows[..f.jobs as usize],
+    )
+}
+
+// The same: a set with few jobs pays for a small table.
 fn judge_slots(
     f: Counts,
     attributes: &Attributes,
@@ -122,13 +142,10 @@ fn judge_slots(
     ensures { result ≡ verdict_from 20 (lent_tasks f attributes.now) (lent_patterns f headings.now pairs.now)
         (lent_plan f slots.now) }
 {
-    let n = f.jobs as usize;
-    if n <= 64 {
-        let mut few = [[0u32; 3]; 64];
-        return judge_rows(f, attributes, headings, pairs, slots, &mut few[..n]);
+    if f.jobs <= 64 {
+        return judge_in::<64>(f, attributes, headings, pairs, slots);
     }
-    let mut rows = [[0u32; 3]; 2048];
-    judge_rows(f, attributes, headings, pairs, slots, &mut rows[..n])
+    judge_in::<2048>(f, attributes, headings, pairs, slots)
 }
 
 // Rules 11 to 23, over the numbers and tables of a sound set. The tables have one lifetime, so that the fields of one set can be lent together.

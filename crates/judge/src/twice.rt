@@ -1,10 +1,12 @@
 // The evidence of rule 20 (R10.2 in docs/RULES.md): a task stands twice in one tick.
-ghost use Rattle.std.specs.Prelude.{◌≡◌, ◌*◌, ◌<◌};
-ghost use Rattle.vocabulary.specs.Least.{least};
+ghost use Rattle.std.specs.Prelude.{◌≡◌, ◌*◌, ◌<◌, ◌≤◌};
+ghost use Rattle.vocabulary.specs.Least.{lowest};
 ghost use Rattle.kinds.specs.Plans.{plan, slot};
-ghost use Rattle.judge.specs.Rules.{twin, mated, clashes};
+ghost use Rattle.judge.specs.Rules.{twin, clashes};
 ghost use Rattle.judge.specs.RowMarks.{Worded};
+ghost use Rattle.judge.specs.Searches.{mated_pair_of, twice_found};
 
+use crate::Verdict;
 use crate::leaves::{has_slot, mark};
 
 // A task stands twice in tick c, whose slots start at place a.
@@ -13,37 +15,33 @@ fn is_row_twice(slots: &[u8], m: usize, h: u32, c: u32, a: usize) -> bool
     ensures { result ≡ clashes (plan slots.now m h) c }
 {
     let mut x: u64 = 0;
-    let mut q: usize = 0;
-    while q < m {
+    for q in 0..m {
         let v = slots[a + q];
         if has_slot(x, v) {
             return true;
         }
         x = mark(x, v);
-        q += 1;
     }
     false
 }
 
-// The lowest tick in which a task stands twice, or h.
-pub(crate) fn first_twice(slots: &[u8], m: usize, h: u32) -> u32
+// The lowest tick in which a task stands twice.
+fn first_twice(slots: &[u8], m: usize, h: u32) -> Option<u32>
     requires { Worded slots.now m h }
-    ensures { result ≡ least (clashes (plan slots.now m h)) h }
+    ensures { result ≡ lowest (clashes (plan slots.now m h)) h }
 {
-    let mut c: u32 = 0;
     let mut a: usize = 0;
-    while c < h {
+    for c in 0..h {
         if is_row_twice(slots, m, h, c, a) {
-            return c;
+            return Some(c);
         }
         a += m;
-        c += 1;
     }
-    c
+    None
 }
 
 // What processor q shows in tick c.
-pub(crate) fn slot_at(slots: &[u8], m: usize, h: u32, c: u32, q: usize) -> u8
+fn slot_at(slots: &[u8], m: usize, h: u32, c: u32, q: usize) -> u8
     requires { Worded slots.now m h × (c < h) × (q < m) }
     ensures { result ≡ slot (plan slots.now m h) c q }
 {
@@ -65,32 +63,38 @@ fn are_twins(slots: &[u8], m: usize, h: u32, c: u32, q: usize, r: usize) -> bool
     slot_at(slots, m, h, c, r) == v
 }
 
-// The lowest processor above q that shows in tick c what q shows, or m.
-pub(crate) fn mate_of(slots: &[u8], m: usize, h: u32, c: u32, q: usize) -> usize
+// The lowest processor above q that shows in tick c what q shows.
+fn mate_of(slots: &[u8], m: usize, h: u32, c: u32, q: usize) -> Option<usize>
     requires { Worded slots.now m h × (c < h) × (q < m) }
-    ensures { result ≡ least (twin (plan slots.now m h) c q) m }
+    ensures { result ≡ lowest (twin (plan slots.now m h) c q) m }
 {
-    let mut r: usize = 0;
-    while r < m {
+    for r in 0..m {
         if are_twins(slots, m, h, c, q, r) {
-            return r;
+            return Some(r);
         }
-        r += 1;
     }
-    r
+    None
 }
 
-// The lowest processor in tick c that has a mate, or m.
-pub(crate) fn first_mated(slots: &[u8], m: usize, h: u32, c: u32) -> usize
+// The lowest processor in tick c that has a mate, and its lowest.
+fn first_mated(slots: &[u8], m: usize, h: u32, c: u32) -> Option<(usize, usize)>
     requires { Worded slots.now m h × (c < h) }
-    ensures { result ≡ least (mated (plan slots.now m h) c) m }
+    ensures { result ≡ mated_pair_of (plan slots.now m h) c }
 {
-    let mut q: usize = 0;
-    while q < m {
-        if mate_of(slots, m, h, c, q) < m {
-            return q;
+    for q in 0..m {
+        if let Some(r) = mate_of(slots, m, h, c, q) {
+            return Some((q, r));
         }
-        q += 1;
     }
-    q
+    None
+}
+
+// Rule 20: the lowest tick in which a task stands twice, and its two processors. A tick that is found has two.
+pub(crate) fn judge_twice(slots: &[u8], m: usize, h: u32) -> Option<Verdict>
+    requires { Worded slots.now m h × (m ≤ 8) }
+    ensures { result ≡ twice_found (plan slots.now m h) }
+{
+    let c = first_twice(slots, m, h)?;
+    let (q, r) = first_mated(slots, m, h, c)?;
+    Some(Verdict::Twice(c, q as u32, r as u32))
 }

@@ -1,5 +1,4 @@
 use mathlib.Core.Path.{◌≡◌}
-use Prim.Native.Nat.{◌-◌}
 use Rattle.vocabulary.specs.Least.{Seeking}
 use Rattle.kinds.specs.Tasks.{pairs_before}
 use Rattle.judge.specs.Rules.{broken_pattern}
@@ -11,6 +10,3 @@ abbrev pub invariant-loop-k : goal.invariant-loop-k
 invariant-loop-k l = (l.start ≡ pairs_before (lent_patterns l.f l.headings l.pairs) l.k)
     × ((w : LinkNeeds l.f.tasks l.f.ticks l.attributes l.base (lent_patterns l.f l.headings l.pairs) l.rows)
     → Seeking (broken_pattern (lent_tasks l.f l.attributes) (lent_patterns l.f l.headings l.pairs) w.counted.plan) l.f.patterns l.k)
-
-abbrev pub decreases-loop-k : goal.decreases-loop-k
-decreases-loop-k l = l.f.patterns - l.k

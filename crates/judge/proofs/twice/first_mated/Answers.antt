@@ -1,18 +1,18 @@
-use Rattle.vocabulary.proofs.Least.{seek, on, hit, miss, some_lt, some_ge}
+use Rattle.vocabulary.proofs.Least.{seek, on, some_least}
 use Rattle.judge.specs.Rules.{mated}
+use Rattle.judge.proofs.Searches.{lowest_yes, lowest_no, with_found, with_nowhere}
 use Rattle.judge.proofs.twice.first_mated.Goals as goal
 
 pub loop-q-init : goal.loop-q-init
 loop-q-init c = seek _ _
 
-pub returns-then-mate_of-m : goal.returns-then-mate_of-m
+pub returns-in-Some : goal.returns-in-Some
 unfolding mated
-returns-then-mate_of-m c = hit _ _ _ c.loop-q.invariant (some_lt _ _ _ c.mate_of.ensures c.if-mate_of-m.true)
+returns-in-Some c = with_found _ _ _ _ c.loop-q.invariant c.loop-q-test.true (lowest_yes _ _ c.in-Some.ensures) (some_least _ _ _ c.in-Some.ensures).0
 
 pub loop-q-preserved : goal.loop-q-preserved
 unfolding mated
-loop-q-preserved c =
-    on _ _ _ c.loop-q.invariant c.loop-q-test.true (some_ge _ _ _ c.mate_of.ensures c.if-mate_of-m.false)
+loop-q-preserved c = on _ _ _ c.loop-q.invariant c.loop-q-test.true (lowest_no _ _ c.in_default.ensures)
 
 pub returns : goal.returns
-returns c = miss _ _ _ c.loop-q.invariant c.loop-q-test.false
+returns c = with_nowhere _ _ _ _ c.loop-q.invariant c.loop-q-test.false

@@ -1,4 +1,3 @@
-use Prim.Native.Nat.{◌-◌}
 use Rattle.vocabulary.specs.Least.{Seeking}
 use Rattle.kinds.specs.Plans.{plan}
 use Rattle.judge.specs.Rules.{mated}
@@ -6,6 +5,3 @@ use Rattle.judge.proofs.twice.first_mated.Given as goal
 
 abbrev pub invariant-loop-q : goal.invariant-loop-q
 invariant-loop-q l = Seeking (mated (plan l.slots l.m l.h) l.c) l.m l.q
-
-abbrev pub decreases-loop-q : goal.decreases-loop-q
-decreases-loop-q l = l.m - l.q

@@ -1,5 +1,5 @@
 use mathlib.Core.Path.{sym, ◌∙◌}
-use Rattle.vocabulary.proofs.Least.{seek, on, hit, miss}
+use Rattle.vocabulary.proofs.Least.{seek, on, found, nowhere}
 use Rattle.judge.proofs.RowLaws.{row_next}
 use native.Mathlib.Omega.{arith}
 use Rattle.judge.proofs.twice.first_twice.Goals as goal
@@ -11,7 +11,7 @@ pub is_row_twice-requires : goal.is_row_twice-requires
 is_row_twice-requires c = (c.requires, c.loop-c-test.true, c.loop-c.invariant.1)
 
 pub returns-then-is_row_twice : goal.returns-then-is_row_twice
-returns-then-is_row_twice c = hit _ _ _ c.loop-c.invariant.0 (sym c.is_row_twice.ensures ∙ c.if-is_row_twice.true)
+returns-then-is_row_twice c = found _ _ _ c.loop-c.invariant.0 c.loop-c-test.true (sym c.is_row_twice.ensures ∙ c.if-is_row_twice.true)
 
 pub overflow_add-a : goal.overflow_add-a
 overflow_add-a c =
@@ -22,4 +22,4 @@ loop-c-preserved c =
     (on _ _ _ c.loop-c.invariant.0 c.loop-c-test.true (sym c.is_row_twice.ensures ∙ c.if-is_row_twice.false), omega (arith, c.loop-c.invariant.1))
 
 pub returns : goal.returns
-returns c = miss _ _ _ c.loop-c.invariant.0 c.loop-c-test.false
+returns c = nowhere _ _ _ c.loop-c.invariant.0 c.loop-c-test.false

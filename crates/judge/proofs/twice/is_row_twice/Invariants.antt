@@ -1,10 +1,6 @@
-use Prim.Native.Nat.{◌-◌}
 use Rattle.kinds.specs.Plans.{plan}
 use Rattle.judge.proofs.RowLaws.{Rowing}
 use Rattle.judge.proofs.twice.is_row_twice.Given as goal
 
 abbrev pub invariant-loop-q : goal.invariant-loop-q
 invariant-loop-q l = Rowing (plan l.slots l.m l.h) l.c l.q l.x
-
-abbrev pub decreases-loop-q : goal.decreases-loop-q
-decreases-loop-q l = l.m - l.q

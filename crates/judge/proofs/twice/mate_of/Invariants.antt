@@ -1,4 +1,3 @@
-use Prim.Native.Nat.{◌-◌}
 use Rattle.vocabulary.specs.Least.{Seeking}
 use Rattle.kinds.specs.Plans.{plan}
 use Rattle.judge.specs.Rules.{twin}
@@ -6,6 +5,3 @@ use Rattle.judge.proofs.twice.mate_of.Given as goal
 
 abbrev pub invariant-loop-r : goal.invariant-loop-r
 invariant-loop-r l = Seeking (twin (plan l.slots l.m l.h) l.c l.q) l.m l.r
-
-abbrev pub decreases-loop-r : goal.decreases-loop-r
-decreases-loop-r l = l.m - l.r
