@@ -3,7 +3,7 @@ ghost use Rattle.std.specs.Prelude.{◌≡◌, ◌*◌, ◌/◌, ◌≤◌, ◌<
 ghost use Rattle.vocabulary.specs.Tally.{count_at, Noted, Fresh};
 ghost use Rattle.kinds.specs.Cycle.{jobs};
 ghost use Rattle.laws.specs.Window.{time_of};
-ghost use Rattle.judge.specs.JobOfSlot.{Fit, FirstJobs, job_key, Walked, Visited};
+ghost use Rattle.judge.specs.JobOfSlot.{Fit, FirstJobs, job_at, Walked, Visited};
 ghost use Rattle.judge.specs.Sweep.{Swept};
 ghost use Rattle.kinds.specs.Build.{lent_tasks};
 ghost use Rattle.judge.specs.Lent.{lent_plan};
@@ -35,16 +35,16 @@ fn time_of(h: u32, o: u32, c: u32) -> u32
     c + h
 }
 
-// The number of the job of task t in whose window slot tick c lies, where b is the number of its first job; 2048 for none.
-fn job_key(h: u32, t: Task, b: u32, c: u32) -> u32
+// The number of the job of task t in whose window slot tick c lies, where b is the number of its first job.
+fn job_at(h: u32, t: Task, b: u32, c: u32) -> Option<u32>
     requires { (h ≤ 6000) × (c < h) × (0 < t.period) × (t.offset ≤ h) × (b ≤ 2048) }
-    ensures { result ≡ job_key h t b c }
+    ensures { result ≡ job_at h t b c }
 {
     let r = time_of(h, t.offset, c) - t.offset;
     if r % t.period < t.deadline {
-        return b + r / t.period;
+        return Some(b + r / t.period);
     }
-    2048
+    None
 }
 
 // Notes the slot at place e, of tick c, or says that its task has no window there.
@@ -61,17 +61,16 @@ fn visit(
         × (e < f.ticks * f.processors) × (c ≡ e / f.processors) × Walked (lent_tasks f attributes.now) (lent_plan f slots.now) e rows.old }
     ensures { Visited (lent_tasks f attributes.now) (lent_plan f slots.now) e result rows.new }
 {
-    let v = slots[e] as usize;
+    let v = usize::from(slots[e]);
     if v == 0 {
         return false;
     }
     let i = v - 1;
     let t = kinds::task_at(attributes, i);
-    let k = job_key(f.ticks, t, base[i], c) as usize;
-    if rows.len() <= k {
+    let Some(k) = job_at(f.ticks, t, base[i], c) else {
         return true;
-    }
-    note(rows, k, time_of(f.ticks, t.offset, c));
+    };
+    note(rows, k as usize, time_of(f.ticks, t.offset, c));
     false
 }
 
