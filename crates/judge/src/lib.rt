@@ -5,18 +5,17 @@ ghost use Rattle.std.specs.Prelude.{get_or, ◌≡◌, ◌*◌, ◌<◌, ◌≤�
 ghost use Rattle.vocabulary.specs.Tally.{Fresh};
 ghost use Rattle.kinds.specs.Tasks.{Tasks, view};
 ghost use Rattle.kinds.specs.Cycle.{jobs};
-ghost use Rattle.kinds.specs.Plans.{plan};
 ghost use Rattle.kinds.specs.SoundByTests.{CountsFound};
 ghost use Rattle.judge.specs.Answers.{number_of, evidence_of};
 ghost use Rattle.judge.specs.Judgement.{verdict_of, verdict_from};
 ghost use Rattle.judge.specs.Heads.{judged_of};
 ghost use Rattle.judge.specs.JobOfSlot.{Fit};
-ghost use Rattle.judge.specs.RowMarks.{Worded};
 ghost use Rattle.judge.specs.Sweep.{Halted};
 ghost use Rattle.judge.specs.TableNeeds.{PlanNeeds};
 ghost use Rattle.kinds.specs.Build.{lent_tasks, lent_patterns, lent_set};
-ghost use Rattle.judge.specs.Lent.{lent_plan, misplaced_verdict};
+ghost use Rattle.judge.specs.Lent.{lent_plan, Viewed, plan_in, misplaced_verdict};
 
+use crate::twice::PlanView;
 use kinds::{Attributes, Counts, Headings, Pairs, Task, TaskSet};
 
 mod bases;
@@ -27,7 +26,8 @@ mod links;
 mod twice;
 mod walk;
 
-// The first rule that a plan breaks, with where it does, or that it breaks none.
+// The first rule that a plan breaks, with where it does, or that it breaks none. An enum of its own and not a Result: callers name the eight answers, of which
+// a plan that is accepted is one.
 #[derive(Clone, Copy)]
 pub enum Verdict {
     Accepted,
@@ -73,14 +73,14 @@ struct LinkSteps {
 }
 
 // Rule 20 or 21, where the walk stopped at slot e: the lowest tick in which a task stands twice; where there is none, slot e lies outside.
-fn misplaced(slots: &[u8], m: usize, h: u32, e: usize) -> Verdict
-    requires { Worded slots.now m h × (0 < m) × (m ≤ 8) × (e < h * m) }
-    ensures { (u : Tasks) → Halted u (plan slots.now m h) e → result ≡ misplaced_verdict u (plan slots.now m h) }
+fn misplaced<'a>(rows: PlanView<'a>, e: usize) -> Verdict
+    requires { Viewed rows × (0 < rows.m) × (rows.m ≤ 8) × (e < rows.h * rows.m) }
+    ensures { (u : Tasks) → Halted u (plan_in rows.entry) e → result ≡ misplaced_verdict u (plan_in rows.entry) }
 {
-    if let Some(v) = twice::judge_twice(slots, m, h) {
+    if let Some(v) = rows.judge_twice() {
         return v;
     }
-    Verdict::Outside((e / m) as u32, (e % m) as u32)
+    Verdict::Outside((e / rows.m) as u32, (e % rows.m) as u32)
 }
 
 // Rules 20 to 23, by one walk over the slots that fills a table with a row for each job: how many ticks it gets, the first and the last.
@@ -100,7 +100,12 @@ fn judge_rows(
     let mut base = [0u32; 64];
     bases::put_first_jobs(f, attributes, &mut base);
     if let Some(e) = walk::sweep(f, attributes, &base, slots, rows) {
-        return misplaced(slots, f.processors as usize, f.ticks, e);
+        let view = PlanView {
+            slots,
+            m: f.processors as usize,
+            h: f.ticks,
+        };
+        return misplaced(view, e);
     }
     counts::judge_counts(f, attributes, headings, pairs, &base, rows)
 }

@@ -7,7 +7,7 @@ pub returns-in-Some : goal.returns-in-Some
 returns-in-Some c = λ u h. misplaced_twice _ _ c.in-Some.ensures
 
 pub overflow_cast-result : goal.overflow_cast-result
-overflow_cast-result c = omega (arith, div-le_self c.args.e c.args.m, c.requires.3, c.requires.0.short)
+overflow_cast-result c = omega (arith, div-le_self c.args.e c.args.rows.m, c.requires.3, c.requires.0.short)
 
 pub overflow_cast-result-2 : goal.overflow_cast-result-2
 overflow_cast-result-2 c = omega (arith, mod-lt c.args.e c.requires.1, c.requires.2)

@@ -1,7 +1,7 @@
 use Rattle.vocabulary.proofs.Least.{seek, on, some_least}
 use Rattle.judge.specs.Rules.{mated}
 use Rattle.judge.proofs.Searches.{lowest_yes, lowest_no, with_found, with_nowhere}
-use Rattle.judge.proofs.twice.first_mated.Goals as goal
+use Rattle.judge.proofs.twice.PlanView.first_mated.Goals as goal
 
 pub loop-q-init : goal.loop-q-init
 loop-q-init c = seek _ _

@@ -1,7 +1,7 @@
 use native.Mathlib.Omega.{arith}
 use mathlib.Core.Path.{◌∙◌}
 use Rattle.judge.proofs.VerdictChain.{twice_none, twice_low, twice_pair, twice_few, twice_some}
-use Rattle.judge.proofs.twice.judge_twice.Goals as goal
+use Rattle.judge.proofs.twice.PlanView.judge_twice.Goals as goal
 
 pub returns-in_err-c : goal.returns-in_err-c
 returns-in_err-c c = c.from_residual.ensures ∙ twice_none _ c.in_err-c.ensures

@@ -1,6 +1,6 @@
 use mathlib.Core.Path.{sym, ◌∙◌}
 use Rattle.vocabulary.proofs.Least.{seek, on, found, nowhere}
-use Rattle.judge.proofs.twice.mate_of.Goals as goal
+use Rattle.judge.proofs.twice.PlanView.mate_of.Goals as goal
 
 pub loop-r-init : goal.loop-r-init
 loop-r-init c = seek _ _
