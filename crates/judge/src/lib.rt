@@ -12,8 +12,7 @@ ghost use Rattle.judge.specs.Heads.{judged_of};
 ghost use Rattle.judge.specs.JobOfSlot.{Fit};
 ghost use Rattle.judge.specs.Sweep.{Halted};
 ghost use Rattle.judge.specs.TableNeeds.{PlanNeeds};
-ghost use Rattle.kinds.specs.Build.{lent_tasks, lent_patterns, lent_set};
-ghost use Rattle.judge.specs.Lent.{lent_plan, Viewed, plan_in, misplaced_verdict};
+ghost use Rattle.judge.specs.Lent.{tasks_in, patterns_in, set_in, lent_plan, Viewed, plan_in, misplaced_verdict};
 
 use crate::twice::PlanView;
 use kinds::{Attributes, Counts, Headings, Pairs, Task, TaskSet};
@@ -43,6 +42,15 @@ pub enum Verdict {
     WrongCount(u32, u32, u32, u32, u32),
     // Pattern, pair, k.
     BrokenLink(u32, u32, u32),
+}
+
+// A sound set as it is lent: its numbers and its tables. The tables have one lifetime, so that the fields of one set can be lent together.
+#[derive(Clone, Copy)]
+struct SetView<'a> {
+    counts: Counts,
+    attributes: &'a Attributes,
+    headings: &'a Headings,
+    pairs: &'a Pairs,
 }
 
 // A task's jobs in the table of a cycle: the number of the first, how many there are, and the task.
@@ -84,94 +92,59 @@ fn misplaced<'a>(rows: PlanView<'a>, e: usize) -> Verdict
 }
 
 // Rules 20 to 23, by one walk over the slots that fills a table with a row for each job: how many ticks it gets, the first and the last.
-fn judge_rows(
-    f: Counts,
-    attributes: &Attributes,
-    headings: &Headings,
-    pairs: &Pairs,
-    slots: &[u8],
-    rows: &mut [[u32; 3]],
-) -> Verdict
-    requires { PlanNeeds (lent_tasks f attributes.now) (lent_patterns f headings.now pairs.now) (lent_plan f slots.now)
-        × Fit (lent_tasks f attributes.now) (lent_plan f slots.now) × Fresh (jobs (lent_tasks f attributes.now)) rows.old }
-    ensures { result ≡ verdict_from 20 (lent_tasks f attributes.now) (lent_patterns f headings.now pairs.now)
-        (lent_plan f slots.now) }
+fn judge_rows<'a>(set: SetView<'a>, slots: &[u8], rows: &mut [[u32; 3]]) -> Verdict
+    requires { PlanNeeds (tasks_in set) (patterns_in set) (lent_plan set.counts slots.now) × Fit (tasks_in set) (lent_plan set.counts slots.now)
+        × Fresh (jobs (tasks_in set)) rows.old }
+    ensures { result ≡ verdict_from 20 (tasks_in set.entry) (patterns_in set.entry) (lent_plan set.entry.counts slots.now) }
 {
     let mut base = [0u32; 64];
-    bases::put_first_jobs(f, attributes, &mut base);
-    if let Some(e) = walk::sweep(f, attributes, &base, slots, rows) {
+    bases::put_first_jobs(set.counts, set.attributes, &mut base);
+    if let Some(e) = walk::sweep(set.counts, set.attributes, &base, slots, rows) {
         let view = PlanView {
             slots,
-            m: f.processors as usize,
-            h: f.ticks,
+            m: set.counts.processors as usize,
+            h: set.counts.ticks,
         };
         return misplaced(view, e);
     }
-    counts::judge_counts(f, attributes, headings, pairs, &base, rows)
+    counts::judge_counts(set, &base, rows)
 }
 
 // The same, with a table of its own for N jobs at most.
-fn judge_in<const N: usize>(
-    f: Counts,
-    attributes: &Attributes,
-    headings: &Headings,
-    pairs: &Pairs,
-    slots: &[u8],
-) -> Verdict
-    requires { PlanNeeds (lent_tasks f attributes.now) (lent_patterns f headings.now pairs.now) (lent_plan f slots.now)
-        × Fit (lent_tasks f attributes.now) (lent_plan f slots.now) × (f.jobs ≡ jobs (lent_tasks f attributes.now)) × (f.jobs ≤ N) × (N ≤ 2048) }
-    ensures { result ≡ verdict_from 20 (lent_tasks f attributes.now) (lent_patterns f headings.now pairs.now)
-        (lent_plan f slots.now) }
+fn judge_in<'a, const N: usize>(set: SetView<'a>, slots: &[u8]) -> Verdict
+    requires { PlanNeeds (tasks_in set) (patterns_in set) (lent_plan set.counts slots.now) × Fit (tasks_in set) (lent_plan set.counts slots.now)
+        × (set.counts.jobs ≡ jobs (tasks_in set)) × (set.counts.jobs ≤ N) × (N ≤ 2048) }
+    ensures { result ≡ verdict_from 20 (tasks_in set.entry) (patterns_in set.entry) (lent_plan set.entry.counts slots.now) }
 {
     let mut rows = [[0u32; 3]; N];
-    judge_rows(
-        f,
-        attributes,
-        headings,
-        pairs,
-        slots,
-        &mut rows[..f.jobs as usize],
-    )
+    judge_rows(set, slots, &mut rows[..set.counts.jobs as usize])
 }
 
 // The same: a set with few jobs pays for a small table.
-fn judge_slots(
-    f: Counts,
-    attributes: &Attributes,
-    headings: &Headings,
-    pairs: &Pairs,
-    slots: &[u8],
-) -> Verdict
-    requires { PlanNeeds (lent_tasks f attributes.now) (lent_patterns f headings.now pairs.now) (lent_plan f slots.now)
-        × Fit (lent_tasks f attributes.now) (lent_plan f slots.now) × (f.jobs ≡ jobs (lent_tasks f attributes.now)) }
-    ensures { result ≡ verdict_from 20 (lent_tasks f attributes.now) (lent_patterns f headings.now pairs.now)
-        (lent_plan f slots.now) }
+fn judge_slots<'a>(set: SetView<'a>, slots: &[u8]) -> Verdict
+    requires { PlanNeeds (tasks_in set) (patterns_in set) (lent_plan set.counts slots.now) × Fit (tasks_in set) (lent_plan set.counts slots.now)
+        × (set.counts.jobs ≡ jobs (tasks_in set)) }
+    ensures { result ≡ verdict_from 20 (tasks_in set.entry) (patterns_in set.entry) (lent_plan set.entry.counts slots.now) }
 {
-    if f.jobs <= 64 {
-        return judge_in::<64>(f, attributes, headings, pairs, slots);
+    if set.counts.jobs <= 64 {
+        return judge_in::<64>(set, slots);
     }
-    judge_in::<2048>(f, attributes, headings, pairs, slots)
+    judge_in::<2048>(set, slots)
 }
 
-// Rules 11 to 23, over the numbers and tables of a sound set. The tables have one lifetime, so that the fields of one set can be lent together.
-fn judge_tables<'a>(
-    f: Counts,
-    attributes: &'a Attributes,
-    headings: &'a Headings,
-    pairs: &'a Pairs,
-    slots: &[u8],
-) -> Verdict
-    requires { CountsFound (lent_set f attributes.now headings.now pairs.now) f }
-    ensures { result ≡ verdict_of (lent_set f attributes.now headings.now pairs.now) slots.now }
+// Rules 11 to 23, over the numbers and tables of a sound set.
+fn judge_tables<'a>(set: SetView<'a>, slots: &[u8]) -> Verdict
+    requires { CountsFound (set_in set) set.counts }
+    ensures { result ≡ verdict_of (set_in set.entry) slots.now }
 {
-    if slots.len() != f.processors as usize * f.ticks as usize {
+    if slots.len() != set.counts.processors as usize * set.counts.ticks as usize {
         return Verdict::WrongLength;
     }
-    let e = slots::first_high(slots, f.tasks);
+    let e = slots::first_high(slots, set.counts.tasks);
     if e < slots.len() {
         return Verdict::BadSlot(e);
     }
-    judge_slots(f, attributes, headings, pairs, slots)
+    judge_slots(set, slots)
 }
 
 // The verdict on a plan for a task set.
@@ -182,7 +155,13 @@ pub fn judge(set: TaskSet, plan: &[u8]) -> Verdict
     if f.ticks == 0 {
         return Verdict::BadSet;
     }
-    judge_tables(f, &set.attributes, &set.headings, &set.pairs, plan)
+    let lent = SetView {
+        counts: f,
+        attributes: &set.attributes,
+        headings: &set.headings,
+        pairs: &set.pairs,
+    };
+    judge_tables(lent, plan)
 }
 
 // The verdict on a set that is given as the head of a file; bytes that are no head, or more than one, are 10. It copies no set.
@@ -196,7 +175,13 @@ pub fn judge_head(tasks: &[u8], plan: &[u8]) -> Verdict
     if f.ticks == 0 {
         return Verdict::BadSet;
     }
-    judge_tables(f, &attributes, &headings, &pairs, plan)
+    let head = SetView {
+        counts: f,
+        attributes: &attributes,
+        headings: &headings,
+        pairs: &pairs,
+    };
+    judge_tables(head, plan)
 }
 
 // The number of a verdict: 0, 10, 11, 12, or 20 to 23.
