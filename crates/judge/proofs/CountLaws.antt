@@ -2,12 +2,14 @@
 use mathlib.Core.Path.{◌≡◌, sym, ap, ap₂, ◌∙◌}
 use mathlib.Core.Bool.{true, false, not}
 use mathlib.Core.List.{List}
-use Prim.Native.Nat.{ℕ, ◌/◌, ◌<◌, ◌≤◌}
+use Prim.Native.Nat.{ℕ, ◌/◌, ◌<◌}
 use native.Mathlib.Omega.{arith}
 use borrow.Author.Tests.{eqb-true, eq-eqb, ne_eqb, not-false}
 use Rattle.vocabulary.specs.First.{first_of, from}
-use Rattle.vocabulary.specs.Least.{least, some, Seeking}
-use Rattle.vocabulary.proofs.Least.{some_lt, some_ge, some_not, hit}
+use Rattle.std.specs.Prelude.{Some, None}
+use Rattle.vocabulary.specs.Least.{least, some, lowest, Seeking}
+use Rattle.vocabulary.proofs.Least.{some_lt, some_not, hit, some_least}
+use Rattle.judge.proofs.Searches.{lowest_yes, lowest_no}
 use Rattle.kinds.specs.Tasks.{Tasks, Patterns, tasks_of, task_at, running}
 use Rattle.kinds.specs.Cycle.{jobs_of}
 use Rattle.kinds.specs.Plans.{Plan, ticks}
@@ -51,22 +53,24 @@ module _ {n h : ℕ} {xs bs : List ℕ} {v : Patterns} {rows : List (List ℕ)} 
     abbrev pub task_tells : Tells rows x
     task_tells = lane_tells w.tallied l lane_is
 
-    module _ {k : ℕ} (ek : k ≡ least (miscounts (tasks_of n xs) w.plan i) (jobs_of (tasks_of n xs) i)) where
-      pub task_yes : k < x.jobs → miscounted (tasks_of n xs) w.plan i ≡ true
-      unfolding miscounted
-      task_yes lk = some_lt (miscounts (tasks_of n xs) w.plan i) (jobs_of (tasks_of n xs) i) k ek (omega (arith, (lane_parts (tasks_of n xs) i lane_is).1))
+    pub task_no : None ≡ lowest (miscounts (tasks_of n xs) w.plan i) (jobs_of (tasks_of n xs) i) → miscounted (tasks_of n xs) w.plan i ≡ false
+    unfolding miscounted
+    task_no = lowest_no (miscounts (tasks_of n xs) w.plan i) (jobs_of (tasks_of n xs) i)
 
-      pub task_no : x.jobs ≤ k → miscounted (tasks_of n xs) w.plan i ≡ false
-      unfolding miscounted
-      task_no lk = some_ge (miscounts (tasks_of n xs) w.plan i) (jobs_of (tasks_of n xs) i) k ek (omega (arith, (lane_parts (tasks_of n xs) i lane_is).1))
+    module _ {k : ℕ} (ek : Some k ≡ lowest (miscounts (tasks_of n xs) w.plan i) (jobs_of (tasks_of n xs) i)) where
+      pub job_low : k < x.jobs
+      job_low =
+          let z = some_least (miscounts (tasks_of n xs) w.plan i) (jobs_of (tasks_of n xs) i) k ek in
+          omega (arith, z.1, (lane_parts (tasks_of n xs) i lane_is).1)
 
-      pub wrong_found : {c a b : ℕ} → Seeking (miscounted (tasks_of n xs) w.plan) n i → k < x.jobs → Gets (tasks_of n xs) w.plan i k c a b
+      pub wrong_found : {c a b : ℕ} → Seeking (miscounted (tasks_of n xs) w.plan) n i → Gets (tasks_of n xs) w.plan i k c a b
           → verdict.WrongCount i k c a b ≡ verdict_from 22 (tasks_of n xs) v w.plan
-      unfolding verdict_from plan_rules from first_of wrong_at
-      wrong_found s lk g =
-          let e : i ≡ least (miscounted (tasks_of n xs) w.plan) n = hit _ _ i s (task_yes lk) in
+      unfolding verdict_from plan_rules from first_of wrong_at miscounted
+      wrong_found s g =
+          let z = some_least (miscounts (tasks_of n xs) w.plan i) (jobs_of (tasks_of n xs) i) k ek in
+          let e : i ≡ least (miscounted (tasks_of n xs) w.plan) n = hit _ _ i s (lowest_yes _ _ ek) in
           let q = gets_ticks (tasks_of n xs) w.plan i k g in
-          rw (some_lt (miscounted (tasks_of n xs) w.plan) n i e l, ← e, ← ek, ← q.0, ← q.1, ← q.2)
+          rw (some_lt (miscounted (tasks_of n xs) w.plan) n i e l, ← e, ← z.0, ← q.0, ← q.1, ← q.2)
 
 -- Where no task is miscounted every job gets its running time.
 pub all_counted : (u : Tasks) (p : Plan) → some (miscounted u p) u.count ≡ false → (i k : ℕ) → i < u.count → k < jobs_of u i

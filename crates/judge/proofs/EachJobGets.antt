@@ -42,7 +42,7 @@ module _ (u : Tasks) (p : Plan) (f : Fit u p) where
   jobs_are i = ap (λ (h : ℕ). h / period u i) (sym f.ticks)
 
   -- The job in force is a job of the cycle.
-  job_low : (i c : ℕ) → i < u.count → c < p.cycle → (time_of p.cycle (offset u i) c - offset u i) / period u i < jobs_of u i
+  pub job_low : (i c : ℕ) → i < u.count → c < p.cycle → (time_of p.cycle (offset u i) c - offset u i) / period u i < jobs_of u i
   job_low i c l k =
       let w = time_from p.cycle (offset u i) c (offset_within i l) k in
       rw (jobs_are i)

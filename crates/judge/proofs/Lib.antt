@@ -10,3 +10,4 @@ pub mod SweepLaws
 pub mod VerdictChain
 pub mod HeadVerdict
 pub mod Broken
+pub mod Searches

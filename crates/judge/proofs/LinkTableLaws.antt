@@ -11,8 +11,11 @@ use borrow.Author.Tests.{le-leb, lt-leb, lt-ltb}
 use Rattle.vocabulary.proofs.Test.{by_false}
 use Rattle.vocabulary.specs.First.{first_of, from}
 use Rattle.vocabulary.proofs.Total.{total_none, total_more}
-use Rattle.vocabulary.specs.Least.{least, Seeking}
-use Rattle.vocabulary.proofs.Least.{some_lt, some_ge, hit, miss}
+use Rattle.std.specs.Prelude.{Some, None}
+use Rattle.vocabulary.specs.Least.{least, lowest, Seeking}
+use Rattle.vocabulary.proofs.Least.{some_lt, some_ge, hit, miss, some_least}
+use Rattle.judge.specs.Searches.{broken_pair_of}
+use Rattle.judge.proofs.Searches.{lowest_yes, lowest_no, with_some, with_none}
 use Rattle.vocabulary.specs.Multiple.{lcm}
 use Rattle.kinds.specs.declared.Pair.{Pair}
 use Rattle.kinds.specs.declared.Pattern.{Pattern}
@@ -182,14 +185,15 @@ module _ {ps : List ℕ} {rows : List (List ℕ)} {g : LinkSteps} {x : ℕ} (w :
       link_no m = sym link_is ∙ lt-leb a' b m
 
   -- What the search tells of the pair.
-  module _ {r : ℕ} (e : r ≡ least (breaks u v p k q) (repeats u v k)) where
-    pub pair_yes : r < g.rounds → broken_pair w.tasks w.patterns w.plan w.pattern w.pair ≡ true
-    unfolding broken_pair
-    pair_yes l = some_lt (breaks u v p k q) (repeats u v k) r e (rounds_low l)
+  pub pair_yes : {r : ℕ} → Some r ≡ lowest (breaks w.tasks w.patterns w.plan w.pattern w.pair) (repeats w.tasks w.patterns w.pattern)
+      → (broken_pair w.tasks w.patterns w.plan w.pattern w.pair ≡ true) × (r ≡ least (breaks w.tasks w.patterns w.plan w.pattern w.pair) (repeats w.tasks w.patterns w.pattern))
+  unfolding broken_pair
+  pair_yes {r} e = (lowest_yes _ _ e, (some_least (breaks u v p k q) (repeats u v k) r e).0)
 
-    pub pair_no : g.rounds ≤ r → broken_pair w.tasks w.patterns w.plan w.pattern w.pair ≡ false
-    unfolding broken_pair
-    pair_no l = some_ge (breaks u v p k q) (repeats u v k) r e (rounds_high l)
+  pub pair_no : None ≡ lowest (breaks w.tasks w.patterns w.plan w.pattern w.pair) (repeats w.tasks w.patterns w.pattern)
+      → broken_pair w.tasks w.patterns w.plan w.pattern w.pair ≡ false
+  unfolding broken_pair
+  pair_no e = lowest_no _ _ e
 
 -- ---- the pairs of one pattern
 module _ {ps : List ℕ} {rows : List (List ℕ)} {g : LinkSteps} {s n : ℕ} (w : PatternOf ps rows g s n) where
@@ -300,21 +304,22 @@ module _ {n h : ℕ} {xs bs : List ℕ} {v : Patterns} {rows : List (List ℕ)} 
         }
 
 -- ---- what the searches tell of the pattern, and of all
-module _ (u : Tasks) (v : Patterns) (p : Plan) (k : ℕ) {n q : ℕ} (en : n ≡ pair_count v k) (eq : q ≡ least (broken_pair u v p k) n) where
-  is_pair : q ≡ least (broken_pair u v p k) (pair_count v k)
-  is_pair = eq ∙ ap (least (broken_pair u v p k)) en
-
-  pub pattern_no : n ≤ q → broken_pattern u v p k ≡ false
+module _ (u : Tasks) (v : Patterns) (p : Plan) (k : ℕ) {n : ℕ} (en : n ≡ pair_count v k) where
+  pub pattern_no : None ≡ broken_pair_of u v p k n → broken_pattern u v p k ≡ false
   unfolding broken_pattern
-  pattern_no m = some_ge (broken_pair u v p k) (pair_count v k) q is_pair (omega arith)
+  pattern_no e = with_none (broken_pair u v p k) _ (pair_count v k) (e ∙ ap (broken_pair_of u v p k) en)
 
-  pub link_found : {r : ℕ} → Seeking (broken_pattern u v p) v.count k → k < v.count → q < n → r ≡ least (breaks u v p k q) (repeats u v k)
-      → verdict.BrokenLink k q r ≡ verdict_from 23 u v p
-  unfolding verdict_from plan_rules from first_of broken_at broken_pattern
-  link_found {r} w l m er =
-      let b = some_lt (broken_pair u v p k) (pair_count v k) q is_pair (omega arith) in
-      let e : k ≡ least (broken_pattern u v p) v.count = hit _ _ k w b in
-      rw (some_lt (broken_pattern u v p) v.count k e l, ← e, ← is_pair, ← er)
+  module _ {q r : ℕ} (e : Some (q, r) ≡ broken_pair_of u v p k n) where
+    pub found_low : q < n
+    found_low = (with_some (broken_pair u v p k) _ n e).1
+
+    pub link_found : Seeking (broken_pattern u v p) v.count k → k < v.count → verdict.BrokenLink k q r ≡ verdict_from 23 u v p
+    unfolding verdict_from plan_rules from first_of broken_at broken_pattern
+    link_found w l =
+        let z = with_some (broken_pair u v p k) _ (pair_count v k) (e ∙ ap (broken_pair_of u v p k) en) in
+        let b = some_lt (broken_pair u v p k) (pair_count v k) q z.0 z.1 in
+        let y : k ≡ least (broken_pattern u v p) v.count = hit _ _ k w b in
+        rw (some_lt (broken_pattern u v p) v.count k y l, ← y, ← z.0, ← z.3)
 
 pub links_end : (u : Tasks) (v : Patterns) (p : Plan) (k : ℕ) → Seeking (broken_pattern u v p) v.count k → v.count ≤ k
     → verdict.Accepted ≡ verdict_from 23 u v p

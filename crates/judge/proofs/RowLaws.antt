@@ -4,12 +4,10 @@ use mathlib.Core.Bool.{Bool, true, false, ◌||◌, not}
 use mathlib.Core.List.{List}
 use mathlib.Core.Logic.{◌⊎◌, inl, inr, ⊎_elim}
 use Prim.Native.Nat.{ℕ, ◌+◌, ◌-◌, ◌*◌, ◌^◌, ◌%◌, ◌<◌, ◌≤◌}
-use native.Mathlib.Nat.{eq-or-lt_of_le, mod-eq_of_lt, mul-le-mul, le_refl}
+use native.Mathlib.Nat.{eq-or-lt_of_le}
 use native.Mathlib.Omega.{arith}
-use lib.Arith.{digits_lt}
 use lib.Bits.{bit_or}
 use lib.Dec.{eqb, ltb}
-use lib.ListN.{get_or, length}
 use borrow.Author.Tests.{eq-eqb, ne_eqb, eqb-true, lt-ltb, le-ltb}
 use Rattle.vocabulary.proofs.Test.{clash, fails, both, lt_or_le, eq_or_ne}
 use Rattle.vocabulary.specs.Least.{least, some}
@@ -20,16 +18,10 @@ use Rattle.kinds.specs.Plans.{Plan, plan, slot, shows}
 use Rattle.judge.specs.Rules.{twin, mated, clashes}
 use Rattle.judge.specs.RowMarks.{Worded, marked, Added}
 
--- ---- the slots of tick c, which begin at place a
-pub row_slot : (slots : List ℕ) (m h c q a : ℕ) → c < h → a ≡ c * m → get_or slots (a + q) 0 ≡ slot (plan slots m h) c q
+-- ---- a slot fits a word
+pub row_few : (slots : List ℕ) (m h : ℕ) → Worded slots m h → (c q : ℕ) {v : ℕ} → v ≡ slot (plan slots m h) c q → v ≤ 64
 unfolding slot
-row_slot slots m h c q a l e = rw (e, mod-eq_of_lt l)
-
-pub row_room : (slots : List ℕ) (m h c q a : ℕ) → Worded slots m h → c < h → q < m → a ≡ c * m → a + q < length slots
-row_room slots m h c q a w l k e = omega (arith, w.long, digits_lt l k)
-
-pub row_next : (slots : List ℕ) (m h c a : ℕ) → Worded slots m h → c < h → a ≡ c * m → a + m ≤ 48000
-row_next slots m h c a w l e = omega (arith, w.short, mul-le-mul {n₁ = c + 1} {m₁ = m} {n₂ = h} {m₂ = m} (omega arith) (le_refl m))
+row_few slots m h w c q e = omega (arith, e, w.few (c % h * m + q))
 
 -- ---- marks
 -- x has the marks of the tasks that the first q processors show at time t.

@@ -4,7 +4,7 @@ use mathlib.Core.Bool.{Bool, true, false}
 use mathlib.Core.List.{List}
 use mathlib.Core.Logic.{inl, inr, ⊎_elim}
 use Prim.Native.Nat.{ℕ, ◌+◌, ◌*◌, ◌/◌, ◌%◌, ◌<◌, ◌≤◌}
-use native.Mathlib.Nat.{eq-or-lt_of_le, mul-div_cancel, div-add-mod', mod-lt}
+use native.Mathlib.Nat.{eq-or-lt_of_le, mul-le-mul, le_refl, div-add-mod', mod-lt}
 use native.Mathlib.Omega.{arith}
 use lib.Arith.{digits_lt}
 use lib.ListN.{get_or}
@@ -20,10 +20,11 @@ use Rattle.judge.specs.Rules.{clashes, strays, strayed}
 use Rattle.judge.specs.Judgement.{outside_at}
 use Rattle.judge.specs.JobOfSlot.{Fit, outside, Walked, Visited}
 use Rattle.judge.proofs.EachJobGets.{place, each_job_gets}
-use Rattle.judge.proofs.Visit.{SlotWalk, walk_from_lem, walk_tick, walk_low, walk_along, walk_down, none_outside}
+use Rattle.judge.proofs.Visit.{SlotWalk, walk_from_lem, walk_low, walk_along, walk_down, none_outside}
 use Rattle.judge.proofs.RowLaws.{Rowing, row_from_lem, row_hit, row_on_lem, row_end}
 use Rattle.judge.specs.RowMarks.{marked, Added}
 use Rattle.judge.specs.Sweep.{FirstOutside, Halted, Swept}
+use Rattle.std.specs.Prelude.{Some, None}
 
 -- The walk has come to slot e, processor q of tick c, with the tasks of the row so far marked in x.
 pub record Sweeping (u : Tasks) (p : Plan) (e q c x : ℕ) (rows : List (List ℕ)) : Type 0 where
@@ -31,15 +32,21 @@ pub record Sweeping (u : Tasks) (p : Plan) (e q c x : ℕ) (rows : List (List �
   pub row : Rowing p c q x
   pub once : (t : ℕ) → t < c → clashes p t ≡ false
 
-pub sweep_from : (u : Tasks) (p : Plan) → Fit u p → (rows : List (List ℕ)) → Fresh (jobs u) rows → Sweeping u p 0 0 0 0 rows
-sweep_from u p f rows z = record { walking = walk_from_lem u p f rows z; row = row_from_lem p 0; once = λ t l. absurd (omega arith) }
+pub sweep_from : (u : Tasks) (p : Plan) → Fit u p → (rows : List (List ℕ)) → Fresh (jobs u) rows → Sweeping u p (0 * p.processors) 0 0 0 rows
+sweep_from u p f rows z =
+    let g : 0 ≡ 0 * p.processors = omega arith in
+    rw (← g) record { walking = walk_from_lem u p f rows z; row = row_from_lem p 0; once = λ t l. absurd (omega arith) }
 
-halted : (u : Tasks) (p : Plan) → Fit u p → (e : ℕ) (rows : List (List ℕ)) → Halted u p e → Swept u p e rows
-halted u p f e rows h = record { good = λ l. absurd (omega (arith, h.low, f.long)); bad = λ l. h }
+halted : (u : Tasks) (p : Plan) (e : ℕ) (rows : List (List ℕ)) → Halted u p e → Swept u p (Some e) rows
+halted u p e rows h =
+    record {
+      good = λ z. let y : ◌≡◌ {A = ℕ} 0 1 = cc z in absurd (omega arith);
+      bad = λ x z. let y : e ≡ x = cc z in rw (← y) h;
+    }
 
-module _ (u : Tasks) (p : Plan) (f : Fit u p) (e q c x : ℕ) (rows : List (List ℕ)) (w : Sweeping u p e q c x rows) (l : e < p.cycle * p.processors) where
-  sweep_tick : c < p.cycle
-  sweep_tick = walk_low u p f e q c rows w.walking l
+module _ (u : Tasks) (p : Plan) (f : Fit u p) (e q c x : ℕ) (rows : List (List ℕ)) (w : Sweeping u p e q c x rows) (sweep_tick : c < p.cycle) (lq : q < p.processors) where
+  pub sweep_low : e < p.cycle * p.processors
+  sweep_low = walk_low u p e q c rows w.walking sweep_tick lq
 
   sweep_slot : get_or p.slots e 0 ≡ slot p c q
   sweep_slot = ap (λ (y : ℕ). get_or p.slots y 0) w.walking.place ∙ sym (place u p f c q sweep_tick)
@@ -47,38 +54,37 @@ module _ (u : Tasks) (p : Plan) (f : Fit u p) (e q c x : ℕ) (rows : List (List
   pub sweep_few : get_or p.slots e 0 ≤ 64
   sweep_few = omega (arith, f.low_slots e, f.few_tasks)
 
-  pub sweep_twice : (rows' : List (List ℕ)) → marked x (get_or p.slots e 0) ≡ true → Swept u p e rows'
+  pub sweep_twice : (rows' : List (List ℕ)) → marked x (get_or p.slots e 0) ≡ true → Swept u p (Some e) rows'
   sweep_twice rows' h =
-      let r = row_hit p c q x _ w.row w.walking.proc sweep_slot sweep_few h in
-      halted u p f e rows' (record { low = l; why = inl (some_yes (clashes p) p.cycle c sweep_tick r) })
+      let r = row_hit p c q x _ w.row lq sweep_slot sweep_few h in
+      halted u p e rows' (record { low = sweep_low; why = inl (some_yes (clashes p) p.cycle c sweep_tick r) })
 
   module _ (rows' : List (List ℕ)) (r : Bool) (v : Visited u p e r rows') where
-    pub sweep_out : r ≡ true → Swept u p e rows'
-    sweep_out er = halted u p f e rows' (record { low = l; why = inr (record { seen = w.walking.seen; out = v.out ∙ er }) })
+    pub sweep_out : r ≡ true → Swept u p (Some e) rows'
+    sweep_out er = halted u p e rows' (record { low = sweep_low; why = inr (record { seen = w.walking.seen; out = v.out ∙ er }) })
 
     module _ (x' : ℕ) (er : r ≡ false) (m : marked x (get_or p.slots e 0) ≡ false) (a : Added x (get_or p.slots e 0) x') where
       along : Rowing p c (q + 1) x'
-      along = row_on_lem p c q x _ w.row w.walking.proc sweep_slot sweep_few x' m a
+      along = row_on_lem p c q x _ w.row lq sweep_slot sweep_few x' m a
 
-      pub sweep_along : (q + 1 ≡ p.processors → ⊥) → Sweeping u p (e + 1) (q + 1) c x' rows'
-      sweep_along z = record { walking = walk_along u p e q c rows rows' w.walking l r v er z; row = along; once = w.once }
+      pub sweep_along : {d : ℕ} → d ≡ e + 1 → Sweeping u p d (q + 1) c x' rows'
+      sweep_along ed = rw ed record { walking = walk_along u p e q c rows w.walking lq sweep_low rows' r v er; row = along; once = w.once }
 
-      pub sweep_down : q + 1 ≡ p.processors → Sweeping u p (e + 1) 0 (c + 1) 0 rows'
-      sweep_down z =
-          record {
-            walking = walk_down u p e q c rows rows' w.walking l r v er z;
-            row = row_from_lem p (c + 1);
-            once =
-                λ t h.
-                ⊎_elim (λ g. rw g (row_end p c (q + 1) x' along (omega arith))) (λ g. w.once t g) (eq-or-lt_of_le (let g : t ≤ c = omega arith in g));
-          }
+-- At the end of a tick the next has no marks yet.
+pub sweep_down : (u : Tasks) (p : Plan) (e q c x : ℕ) (rows : List (List ℕ)) → Sweeping u p e q c x rows → p.processors ≤ q
+    → Sweeping u p ((c + 1) * p.processors) 0 (c + 1) 0 rows
+sweep_down u p e q c x rows w z =
+    let g : e ≡ (c + 1) * p.processors = omega (arith, w.walking.place, w.walking.proc, z) in
+    rw (← g) record {
+      walking = walk_down u p e q c rows w.walking z;
+      row = row_from_lem p (c + 1);
+      once = λ t h. ⊎_elim (λ g. rw g (row_end p c q x w.row z)) (λ g. w.once t g) (eq-or-lt_of_le (let g : t ≤ c = omega arith in g));
+    }
 
-pub sweep_end : (u : Tasks) (p : Plan) → Fit u p → (e q c x : ℕ) (rows : List (List ℕ)) → Sweeping u p e q c x rows
-    → p.cycle * p.processors ≤ e → Swept u p e rows
-sweep_end u p f e q c x rows w l =
+pub sweep_end : (u : Tasks) (p : Plan) → Fit u p → (e c x : ℕ) (rows : List (List ℕ)) → Sweeping u p e 0 c x rows → p.cycle ≤ c → Swept u p None rows
+sweep_end u p f e c x rows w l =
+    let le : p.cycle * p.processors ≤ e = omega (arith, w.walking.place, mul-le-mul {n₁ = p.cycle} {m₁ = p.processors} {n₂ = c} {m₂ = p.processors} l (le_refl p.processors)) in
     let g : e ≡ p.cycle * p.processors = omega (arith, w.walking.seen.within) in
-    let k : c ≡ p.cycle =
-    walk_tick u p e q c rows w.walking ∙ ap (λ (y : ℕ). y / p.processors) g ∙ mul-div_cancel p.cycle f.some_processors in
     let once : ((t : ℕ) → t < p.cycle → clashes p t ≡ false) = λ t h. w.once t (omega arith) in
     record {
       good = λ r. record {
@@ -86,7 +92,7 @@ sweep_end u p f e q c x rows w l =
         inside = none_outside u p (λ i h. w.walking.seen.before i (omega arith));
         gets = each_job_gets u p f once rows (subst (λ (y : ℕ). Walked u p y rows) g w.walking.walked);
       };
-      bad = λ r. absurd (omega (arith, f.long));
+      bad = λ x z. let y : ◌≡◌ {A = ℕ} 0 1 = cc z in absurd (omega arith);
     }
 
 -- ---- the first slot outside is the evidence of rule 21: its tick is the lowest, and in it its processor

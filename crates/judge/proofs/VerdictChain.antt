@@ -1,7 +1,6 @@
 -- The verdict by its ways out: what is left of the chain of rules once those before are kept.
 use mathlib.Core.Path.{◌≡◌, refl, sym, ap, ◌∙◌, subst}
 use mathlib.Core.Bool.{Bool, true, false}
-use Rattle.std.specs.Prelude.{Some, None}
 use mathlib.Core.List.{List, [], ◌∷◌}
 use mathlib.Core.Logic.{◌⊎◌, inl, inr}
 use Prim.Native.Nat.{ℕ, zero, suc, ◌*◌, ◌/◌, ◌%◌, ◌<◌, ◌≤◌}
@@ -13,7 +12,7 @@ use Rattle.vocabulary.specs.Test.{pick}
 use Rattle.vocabulary.proofs.Test.{clash}
 use Rattle.vocabulary.specs.First.{first_of, from}
 use Rattle.vocabulary.specs.Least.{least, some, lowest}
-use Rattle.vocabulary.proofs.Least.{least_is, some_yes, some_at, some_lt, some_ge, none, some_least, none_least}
+use Rattle.vocabulary.proofs.Least.{least_is, some_yes, some_lt, some_ge, none, some_least, none_least}
 use Rattle.vocabulary.specs.Tally.{Fresh}
 use Rattle.kinds.specs.declared.Counts.{Counts}
 use Rattle.kinds.specs.Tasks.{Tasks, Patterns, Set, tasks_of, patterns_of}
@@ -30,13 +29,16 @@ use Rattle.judge.specs.Judgement.{high_at, twice_at, outside_at, plan_rules, ver
 use Rattle.judge.specs.JobOfSlot.{Fit, FirstJobs, outside}
 use Rattle.judge.proofs.Visit.{few_slots}
 use Rattle.judge.specs.RowMarks.{Worded}
-use Rattle.judge.specs.Sweep.{FirstOutside, Halted, Swept}
+use Rattle.judge.specs.Sweep.{Clean, FirstOutside, Halted}
 use Rattle.judge.proofs.SweepLaws.{out_found}
 use Rattle.judge.specs.TableNeeds.{PlanNeeds, Tallied, Counted, AllRan, LinkNeeds}
 use Rattle.judge.proofs.NeedLaws.{fit_needs}
 use Rattle.judge.proofs.CountLaws.{all_counted}
 use Rattle.kinds.specs.Build.{lent_set}
 use Rattle.judge.specs.Lent.{lent_plan, misplaced_verdict}
+use Rattle.judge.specs.Searches.{mated_pair_of, twice_found}
+use Rattle.judge.proofs.Searches.{with_some, with_none}
+use Rattle.std.specs.Prelude.{Some, None}
 
 -- A set by value with the numbers that were found is judged as its tables are.
 pub lent_verdict : (s : Set) {f : Counts} → CountsFound s f → (slots : List ℕ)
@@ -73,23 +75,20 @@ module _ (f : Counts) (xs hs ps slots : List ℕ) (c : CountsFound (lent_set f x
     judged = rw (c.is_sound, ← c.ticks, eq-eqb (length slots) (f.processors * f.ticks) l)
 
 -- ---- 12
-module _ (u : Tasks) (v : Patterns) (p : Plan) where
-  pub high_slot_lem : {e : ℕ} → Some e ≡ lowest (high p.slots u.count) (length p.slots) → verdict.BadSlot e ≡ verdict_from 12 u v p
+module _ (u : Tasks) (v : Patterns) (p : Plan) (e : ℕ) (q : e ≡ least (high p.slots u.count) (length p.slots)) where
+  pub high_slot_lem : e < length p.slots → verdict.BadSlot e ≡ verdict_from 12 u v p
   unfolding verdict_from plan_rules from first_of high_at
-  high_slot_lem {e} found =
-      let w = some_least (high p.slots u.count) (length p.slots) e found in
-      rw (some_lt (high p.slots u.count) (length p.slots) e w.0 w.1, ← w.0)
+  high_slot_lem l = rw (some_lt (high p.slots u.count) (length p.slots) e q l, ← q)
 
-  module _ (no : None ≡ lowest (high p.slots u.count) (length p.slots)) where
-    none_high : some (high p.slots u.count) (length p.slots) ≡ false
-    none_high = (none_least (high p.slots u.count) (length p.slots) no).1
+  none_high : length p.slots ≤ e → some (high p.slots u.count) (length p.slots) ≡ false
+  none_high l = some_ge (high p.slots u.count) (length p.slots) e q l
 
-    pub low_slots : verdict_from 20 u v p ≡ verdict_from 12 u v p
-    unfolding verdict_from plan_rules from first_of
-    low_slots = rw none_high
+  pub low_slots : length p.slots ≤ e → verdict_from 20 u v p ≡ verdict_from 12 u v p
+  unfolding verdict_from plan_rules from first_of
+  low_slots l = rw (none_high l)
 
-    pub fit_slots : PlanNeeds u v p → Fit u p
-    fit_slots a = fit_needs u v p a (all_low p.slots u.count none_high)
+  pub fit_slots : PlanNeeds u v p → length p.slots ≤ e → Fit u p
+  fit_slots a l = fit_needs u v p a (all_low p.slots u.count (none_high l))
 
 -- ---- the table of jobs as it is made
 abbrev pub no_row : List ℕ
@@ -110,28 +109,55 @@ fresh_rows n size l {m} e =
 pub worded : (u : Tasks) (p : Plan) → Fit u p → Worded p.slots p.processors p.cycle
 worded u p f = record { long = f.long; few = λ e. omega (arith, f.low_slots e, f.few_tasks); short = few_slots u p f }
 
--- Evidence is in range.
-pub mated_low : (p : Plan) (c q : ℕ) → clashes p c ≡ true → q ≡ least (mated p c) p.processors → q < p.processors
-unfolding clashes
-mated_low p c q h e = omega (arith, (some_at (mated p c) p.processors h).0)
+pub twice_none : (p : Plan) → None ≡ lowest (clashes p) p.cycle → None ≡ twice_found p
+unfolding twice_found
+twice_none p e = rw (none_least (clashes p) p.cycle e).1
 
-pub least_low : (f : ℕ → Bool) (n r : ℕ) → r ≡ least f n → r ≤ n
-least_low f n r e = omega (arith, (least_is f n).within)
+-- A tick that is found has two processors, which are in range.
+module _ (p : Plan) {c : ℕ} (e : Some c ≡ lowest (clashes p) p.cycle) where
+  pub twice_low : c < p.cycle
+  twice_low = (some_least (clashes p) p.cycle c e).1
 
-pub least_found : (f : ℕ → Bool) (n r : ℕ) → some f n ≡ true → r ≡ least f n → (r < n) × (f r ≡ true)
-least_found f n r h e = let w = some_at f n h in (omega (arith, w.0), ap f e ∙ w.1)
+  pub twice_pair : None ≡ mated_pair_of p c → ⊥
+  unfolding clashes
+  twice_pair n =
+      clash (some_least (clashes p) p.cycle c e).2 (with_none (mated p c) (λ q. least (twin p c q) p.processors) p.processors n)
 
-module _ (u : Tasks) (p : Plan) (c : ℕ) (e : c ≡ least (clashes p) p.cycle) where
-  pub misplaced_twice : c < p.cycle → {q r : ℕ} → q ≡ least (mated p c) p.processors → r ≡ least (twin p c q) p.processors
-      → verdict.Twice c q r ≡ misplaced_verdict u p
-  unfolding misplaced_verdict twice_at
-  misplaced_twice l eq er = rw (some_lt (clashes p) p.cycle c e l, ← e, ← eq, ← er)
+  module _ {q r : ℕ} (m : Some (q, r) ≡ mated_pair_of p c) where
+    pub twice_few : (q ≤ p.processors) × (r ≤ p.processors)
+    twice_few =
+        let w = with_some (mated p c) (λ q. least (twin p c q) p.processors) p.processors m in
+        (omega (arith, w.1), omega (arith, w.3, (least_is (twin p c q) p.processors).within))
 
-  pub misplaced_outside : p.cycle ≤ c → 0 < p.processors → (x : ℕ) → Halted u p x
+    pub twice_some : Some (verdict.Twice c q r) ≡ twice_found p
+    unfolding twice_found twice_at
+    twice_some =
+        let w = with_some (mated p c) (λ q. least (twin p c q) p.processors) p.processors m in
+        let z = some_least (clashes p) p.cycle c e in
+        rw (some_lt (clashes p) p.cycle c z.0 z.1, ← z.0, ← w.0, ← w.3)
+
+module _ (u : Tasks) (p : Plan) where
+  pub misplaced_twice : {v : Verdict} → Some v ≡ twice_found p → v ≡ misplaced_verdict u p
+  unfolding twice_found misplaced_verdict
+  misplaced_twice {v} e = by (some (clashes p) p.cycle) e
+    where
+      by : (b : Bool) → Some v ≡ pick b (Some (twice_at p)) None → v ≡ pick b (twice_at p) (outside_at u p)
+      by true q = cc q
+      by false q = let z : ◌≡◌ {A = ℕ} 0 1 = cc q in absurd (omega arith)
+
+  none_twice : None ≡ twice_found p → some (clashes p) p.cycle ≡ false
+  unfolding twice_found
+  none_twice e = by (some (clashes p) p.cycle) e
+    where
+      by : (b : Bool) → None ≡ pick b (Some (twice_at p)) None → b ≡ false
+      by true q = let z : ◌≡◌ {A = ℕ} 0 1 = cc q in absurd (omega arith)
+      by false q = refl
+
+  pub misplaced_outside : None ≡ twice_found p → 0 < p.processors → (x : ℕ) → Halted u p x
       → verdict.Outside (x / p.processors) (x % p.processors) ≡ misplaced_verdict u p
   unfolding misplaced_verdict
-  misplaced_outside l m x h =
-      let n : some (clashes p) p.cycle ≡ false = some_ge (clashes p) p.cycle c e l in
+  misplaced_outside e m x h =
+      let n : some (clashes p) p.cycle ≡ false = none_twice e in
       by h.why n ∙ rw n
     where
       by : (some (clashes p) p.cycle ≡ true) ⊎ FirstOutside u p x → some (clashes p) p.cycle ≡ false
@@ -139,10 +165,10 @@ module _ (u : Tasks) (p : Plan) (c : ℕ) (e : c ≡ least (clashes p) p.cycle) 
       by (inl y) n = clash y n
       by (inr y) n = out_found u p x m h.low y ((div-lt_iff_lt-mul m).1 h.low)
 
-module _ (u : Tasks) (v : Patterns) (p : Plan) (f : Fit u p) (e : ℕ) (rows : List (List ℕ)) (w : Swept u p e rows) where
-  pub swept_bad : e < length p.slots → {r : Verdict} → r ≡ misplaced_verdict u p → r ≡ verdict_from 20 u v p
+module _ (u : Tasks) (v : Patterns) (p : Plan) (f : Fit u p) (rows : List (List ℕ)) where
+  pub swept_bad : (e : ℕ) → Halted u p e → {r : Verdict} → r ≡ misplaced_verdict u p → r ≡ verdict_from 20 u v p
   unfolding misplaced_verdict verdict_from plan_rules from first_of strayed outside
-  swept_bad l q = q ∙ go (some (clashes p) p.cycle) refl (w.bad l).why
+  swept_bad e s q = q ∙ go (some (clashes p) p.cycle) refl s.why
     where
       m : 0 < p.processors
       m = f.some_processors
@@ -152,18 +178,18 @@ module _ (u : Tasks) (v : Patterns) (p : Plan) (f : Fit u p) (e : ℕ) (rows : L
       go true n h = refl
       go false n (inl h) = clash h n
       go false n (inr h) =
-          let s = some_yes (strays u p (e / p.processors)) p.processors (e % p.processors) (mod-lt e m) h.out in
-          rw (some_yes (strayed u p) p.cycle (e / p.processors) ((div-lt_iff_lt-mul m).1 (w.bad l).low) s)
+          let y = some_yes (strays u p (e / p.processors)) p.processors (e % p.processors) (mod-lt e m) h.out in
+          rw (some_yes (strayed u p) p.cycle (e / p.processors) ((div-lt_iff_lt-mul m).1 s.low) y)
 
-  module _ (l : length p.slots ≤ e) where
+  module _ (w : Clean u p rows) where
     pub swept_good : {r : Verdict} → r ≡ verdict_from 22 u v p → r ≡ verdict_from 20 u v p
     unfolding verdict_from plan_rules from first_of
     swept_good q =
         q ∙
-        sym (rw (none (clashes p) p.cycle (w.good l).once, none (strayed u p) p.cycle (w.good l).inside))
+        sym (rw (none (clashes p) p.cycle w.once, none (strayed u p) p.cycle w.inside))
 
     pub tallied : Tallied rows u p
-    tallied = record { fit = f; gets = (w.good l).gets }
+    tallied = record { fit = f; gets = w.gets }
 
     abbrev pub counted : {bs : List ℕ} → PlanNeeds u v p → FirstJobs u bs → Counted u.count p.cycle u.attributes bs v rows
     counted a g = record { plan = p; needs = a; tallied = tallied; first_jobs = g; ticks = refl }

@@ -2,13 +2,15 @@
 use mathlib.Core.Path.{◌≡◌, refl, sym, ap, ◌∙◌, subst}
 use mathlib.Core.Bool.{Bool, true, false}
 use mathlib.Core.List.{List}
-use Prim.Native.Nat.{ℕ, ◌+◌, ◌-◌, ◌*◌, ◌/◌, ◌<◌, ◌≤◌}
+use Prim.Native.Nat.{ℕ, ◌+◌, ◌-◌, ◌*◌, ◌/◌, ◌%◌, ◌<◌, ◌≤◌}
 use native.Mathlib.Nat.{le_of_dvd, mul-le-mul}
 use native.Mathlib.Omega.{arith}
 use lib.Arith.{digits_lt}
-use lib.Dec.{leb}
+use lib.Dec.{leb, ltb}
 use lib.ListN.{get_or, length}
 use borrow.Author.Tests.{le-leb, lt-leb}
+use Rattle.std.specs.Prelude.{Some, None}
+use Rattle.vocabulary.specs.Test.{pick}
 use Rattle.vocabulary.proofs.Test.{clash}
 use Rattle.vocabulary.specs.Least.{Seeking}
 use Rattle.vocabulary.proofs.Least.{none, on, seek}
@@ -22,8 +24,32 @@ use Rattle.kinds.specs.Plans.{Plan}
 use Rattle.laws.specs.Window.{time_of}
 use Rattle.laws.proofs.Order.{before_up}
 use Rattle.judge.specs.Rules.{strays, strayed}
-use Rattle.judge.specs.JobOfSlot.{Fit, FirstJobs, job_key, key, time, outside, Fine, Walked, Visited}
-use Rattle.judge.proofs.EachJobGets.{fine, key_task, tick_low, outside_is, idle_is}
+use Rattle.judge.specs.JobOfSlot.{Fit, FirstJobs, job_key, job_at, key, time, outside, Fine, Walked, Visited}
+use Rattle.judge.proofs.EachJobGets.{fine, key_task, tick_low, outside_is, idle_is, job_low, number_fits}
+
+-- The job of a slot tick by its number, which is 2048 for none.
+module _ (h : ℕ) (t : Task) (b c : ℕ) where
+  pub job_some : {k : ℕ} → Some k ≡ job_at h t b c → (k ≡ job_key h t b c) × (k ≡ b + (time_of h t.offset c - t.offset) / t.period)
+  unfolding job_at job_key
+  job_some {k} e = by (ltb ((time_of h t.offset c - t.offset) % t.period) t.deadline) e
+    where
+      n : ℕ
+      n = b + (time_of h t.offset c - t.offset) / t.period
+
+      by : (x : Bool) → Some k ≡ pick x (Some n) None → (k ≡ pick x n 2048) × (k ≡ n)
+      by true q = let z : k ≡ n = cc q in (z, z)
+      by false q = let z : ◌≡◌ {A = ℕ} 0 1 = cc q in absurd (omega arith)
+
+  pub job_none : None ≡ job_at h t b c → 2048 ≡ job_key h t b c
+  unfolding job_at job_key
+  job_none e = by (ltb ((time_of h t.offset c - t.offset) % t.period) t.deadline) e
+    where
+      n : ℕ
+      n = b + (time_of h t.offset c - t.offset) / t.period
+
+      by : (x : Bool) → None ≡ pick x (Some n) None → 2048 ≡ pick x n 2048
+      by true q = let z : ◌≡◌ {A = ℕ} 0 1 = cc q in absurd (omega arith)
+      by false q = refl
 
 module _ (u : Tasks) (p : Plan) (bs : List ℕ) (f : Fit u p) (g : FirstJobs u bs) (e v : ℕ) (le : e < p.cycle * p.processors) (ev : v ≡ get_or p.slots e 0) where
   pub visit_idle : (rows : List (List ℕ)) → Walked u p e rows → v ≡ 0 → Visited u p e false rows
@@ -51,6 +77,12 @@ module _ (u : Tasks) (p : Plan) (bs : List ℕ) (f : Fit u p) (g : FirstJobs u b
             omega (arith, g.each (v - 1) slot_low, before_up u (v - 1) u.count (omega (arith, slot_low)), f.few_jobs),
           )
 
+      pub visit_low : (c : ℕ) → c ≡ e / p.processors → {k : ℕ} → Some k ≡ job_at p.cycle t (get_or bs (v - 1) 0) c → k < jobs u
+      visit_low c ec {k} ek =
+          let lc : c < p.cycle = visit_tick c ec in
+          let z = rw et at (job_some p.cycle t (get_or bs (v - 1) 0) c ek).1 in
+          omega (arith, z, g.each (v - 1) slot_low, number_fits u p f (v - 1) _ slot_low (job_low u p f (v - 1) c slot_low lc))
+
       module _ (c k j : ℕ) (ec : c ≡ e / p.processors) (ek : k ≡ job_key p.cycle t (get_or bs (v - 1) 0) c) (ej : j ≡ k) where
         key_at : j ≡ key u p e
         unfolding key
@@ -66,8 +98,8 @@ module _ (u : Tasks) (p : Plan) (bs : List ℕ) (f : Fit u p) (g : FirstJobs u b
         is_out = outside_is u p f e j le (λ q. z (ev ∙ q)) key_at
 
         module _ (rows : List (List ℕ)) (w : Walked u p e rows) where
-          pub visit_out : (rows' : List (List ℕ)) → length rows ≤ j → Visited u p e true rows'
-          visit_out rows' l = record { out = is_out ∙ le-leb (jobs u) j (omega (arith, w.noted.long)); next = λ r. clash refl r }
+          pub visit_out : (rows' : List (List ℕ)) → j ≡ 2048 → Visited u p e true rows'
+          visit_out rows' l = record { out = is_out ∙ le-leb (jobs u) j (omega (arith, f.few_jobs)); next = λ r. clash refl r }
 
           pub visit_note : (x : ℕ) (rows' : List (List ℕ)) → j < length rows → x ≡ time_of p.cycle t.offset c → Noted j x rows rows'
               → Visited u p e false rows'
@@ -96,7 +128,7 @@ pub record SlotWalk (u : Tasks) (p : Plan) (e q c : ℕ) (rows : List (List ℕ)
   pub seen : Seeking (outside u p) (p.cycle * p.processors) e
   pub walked : Walked u p e rows
   pub place : e ≡ c * p.processors + q
-  pub proc : q < p.processors
+  pub proc : q ≤ p.processors
 
 pub walk_from_lem : (u : Tasks) (p : Plan) → Fit u p → (rows : List (List ℕ)) → Fresh (jobs u) rows → SlotWalk u p 0 0 0 rows
 walk_from_lem u p f rows z =
@@ -104,24 +136,23 @@ walk_from_lem u p f rows z =
       seen = seek (outside u p) (p.cycle * p.processors);
       walked = record { noted = tally_from (key u p) (time u p) (Fine u p) (jobs u) rows z };
       place = omega arith;
-      proc = f.some_processors;
+      proc = omega arith;
     }
 
-pub walk_tick : (u : Tasks) (p : Plan) (e q c : ℕ) (rows : List (List ℕ)) → SlotWalk u p e q c rows → c ≡ e / p.processors
-walk_tick u p e q c rows w = sym (row_div c p.processors q w.proc) ∙ ap (λ (x : ℕ). x / p.processors) (sym w.place)
+module _ (u : Tasks) (p : Plan) (e q c : ℕ) (rows : List (List ℕ)) (w : SlotWalk u p e q c rows) where
+  pub walk_tick : q < p.processors → c ≡ e / p.processors
+  walk_tick l = sym (row_div c p.processors q l) ∙ ap (λ (x : ℕ). x / p.processors) (sym w.place)
 
-pub walk_low : (u : Tasks) (p : Plan) → Fit u p → (e q c : ℕ) (rows : List (List ℕ)) → SlotWalk u p e q c rows → e < p.cycle * p.processors
-    → c < p.cycle
-walk_low u p f e q c rows w l = omega (arith, tick_low u p f e l, walk_tick u p e q c rows w)
+  pub walk_low : c < p.cycle → q < p.processors → e < p.cycle * p.processors
+  walk_low l k = omega (arith, w.place, digits_lt l k)
 
-module _ (u : Tasks) (p : Plan) (e q c : ℕ) (rows rows' : List (List ℕ)) (w : SlotWalk u p e q c rows) (l : e < p.cycle * p.processors) (r : Bool) (v : Visited u p e r rows') (er : r ≡ false) where
-  pub walk_along : (q + 1 ≡ p.processors → ⊥) → SlotWalk u p (e + 1) (q + 1) c rows'
-  walk_along z =
-      record { seen = on _ _ e w.seen l (v.out ∙ er); walked = v.next er; place = omega (arith, w.place); proc = omega (arith, w.proc, z) }
+  pub walk_along : q < p.processors → e < p.cycle * p.processors → (rows' : List (List ℕ)) (r : Bool) → Visited u p e r rows' → r ≡ false
+      → SlotWalk u p (e + 1) (q + 1) c rows'
+  walk_along k l rows' r v er = record { seen = on _ _ e w.seen l (v.out ∙ er); walked = v.next er; place = omega (arith, w.place); proc = omega arith }
 
-  pub walk_down : q + 1 ≡ p.processors → SlotWalk u p (e + 1) 0 (c + 1) rows'
-  walk_down z =
-      record { seen = on _ _ e w.seen l (v.out ∙ er); walked = v.next er; place = omega (arith, w.place); proc = omega (arith, w.proc) }
+  -- At the end of a tick it goes on with the next.
+  pub walk_down : p.processors ≤ q → SlotWalk u p e 0 (c + 1) rows
+  walk_down z = record { seen = w.seen; walked = w.walked; place = omega (arith, w.place, w.proc); proc = omega arith }
 
 -- Where no slot lies outside, no tick has one that does.
 pub none_outside : (u : Tasks) (p : Plan) → ((e : ℕ) → e < p.cycle * p.processors → outside u p e ≡ false)

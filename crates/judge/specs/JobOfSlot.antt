@@ -1,5 +1,5 @@
 -- Which job a slot belongs to, and at what time: what the walk over the slots notes.
-use Rattle.std.specs.Prelude.{◌≡◌, Bool, false, List, ℕ, zero, suc, ◌+◌, ◌-◌, ◌*◌, ◌/◌, ◌%◌, ◌<◌, ◌≤◌, ltb, get_or, length}
+use Rattle.std.specs.Prelude.{◌≡◌, Bool, false, List, ℕ, zero, suc, ◌+◌, ◌-◌, ◌*◌, ◌/◌, ◌%◌, ◌<◌, ◌≤◌, ltb, get_or, length, Option, Some, None}
 use Rattle.std.specs.Int.{◌∣◌}
 use Rattle.vocabulary.specs.Test.{pick}
 use Rattle.vocabulary.specs.Tally.{Tally}
@@ -39,7 +39,11 @@ pub record FirstJobs (u : Tasks) (bs : List ℕ) : Type 0 where
 unfoldable pub job_key : ℕ → Task → ℕ → ℕ → ℕ
 job_key h t b c = let r : ℕ = time_of h t.offset c - t.offset in pick (ltb (r % t.period) t.deadline) (b + r / t.period) 2048
 
--- The same from a slot's value; 2049 for an idle slot.
+-- The same number as an option, as the code has it.
+unfoldable pub job_at : ℕ → Task → ℕ → ℕ → Option ℕ
+job_at h t b c = let r : ℕ = time_of h t.offset c - t.offset in pick (ltb (r % t.period) t.deadline) (Some (b + r / t.period)) None
+
+-- Its number for the table from a slot's value; 2049 for an idle slot.
 unfoldable pub key_of : Tasks → Plan → ℕ → ℕ → ℕ
 key_of u p zero c = 2049
 key_of u p (suc i) c = job_key p.cycle (task_at u.attributes i) (jobs_before u i) c

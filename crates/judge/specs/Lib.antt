@@ -8,3 +8,4 @@ pub mod RowMarks
 pub mod Sweep
 pub mod TableNeeds
 pub mod Lent
+pub mod Searches

@@ -1,5 +1,5 @@
 -- What one walk over the slots tells of rules 20 and 21, and of the table of jobs.
-use Rattle.std.specs.Prelude.{◌≡◌, true, false, List, ◌⊎◌, ℕ, ◌*◌, ◌<◌, ◌≤◌, length}
+use Rattle.std.specs.Prelude.{◌≡◌, true, false, List, ◌⊎◌, ℕ, ◌*◌, ◌<◌, Option, Some, None}
 use Rattle.vocabulary.specs.Least.{some, Seeking}
 use Rattle.kinds.specs.Tasks.{Tasks}
 use Rattle.kinds.specs.Plans.{Plan}
@@ -22,7 +22,7 @@ pub record Halted (u : Tasks) (p : Plan) (e : ℕ) : Type 0 where
   pub low : e < p.cycle * p.processors
   pub why : (some (clashes p) p.cycle ≡ true) ⊎ FirstOutside u p e
 
--- It came to slot r: to the end, where both rules are kept.
-pub record Swept (u : Tasks) (p : Plan) (r : ℕ) (rows : List (List ℕ)) : Type 0 where
-  pub good : length p.slots ≤ r → Clean u p rows
-  pub bad : r < length p.slots → Halted u p r
+-- What it answers: the slot where it stopped, or that it came to the end, where both rules are kept.
+pub record Swept (u : Tasks) (p : Plan) (r : Option ℕ) (rows : List (List ℕ)) : Type 0 where
+  pub good : r ≡ None → Clean u p rows
+  pub bad : (e : ℕ) → r ≡ Some e → Halted u p e

@@ -12,11 +12,9 @@ pub(crate) fn put_first_jobs(f: Counts, attributes: &Attributes, base: &mut [u32
     ensures { FirstJobs (lent_tasks f attributes.now) base.new }
 {
     let mut a: u32 = 0;
-    let mut i: usize = 0;
-    while i < f.tasks {
+    for i in 0..f.tasks {
         let t = kinds::task_at(attributes, i);
         base[i] = a;
         a += f.ticks / t.period;
-        i += 1;
     }
 }

@@ -25,9 +25,9 @@ fn ticks_of_job(rows: &[[u32; 3]], l: Lane, k: u32) -> JobTicks
     requires { Tells rows.now l × (k < l.jobs) }
     ensures { (t : Tells rows.now l) → Gets t.tasks t.plan t.task k result.count result.first result.last }
 {
-    let row = rows[(l.base + k) as usize];
-    if row[0] == 0 {
-        let o = (l.task.offset + k * l.task.period) as u64;
+    let [count, first, last] = rows[(l.base + k) as usize];
+    if count == 0 {
+        let o = u64::from(l.task.offset + k * l.task.period);
         return JobTicks {
             count: 0,
             first: o,
@@ -35,9 +35,9 @@ fn ticks_of_job(rows: &[[u32; 3]], l: Lane, k: u32) -> JobTicks
         };
     }
     JobTicks {
-        count: row[0],
-        first: row[1] as u64,
-        last: row[2] as u64,
+        count,
+        first: u64::from(first),
+        last: u64::from(last),
     }
 }
 
@@ -51,7 +51,7 @@ pub(crate) fn got(rows: &[[u32; 3]], l: Lane, k: u32) -> JobTicks
         return ticks_of_job(rows, l, k);
     }
     let j = k % l.jobs;
-    let d = (k - j) as u64 * l.task.period as u64;
+    let d = u64::from(k - j) * u64::from(l.task.period);
     let g = ticks_of_job(rows, l, j);
     JobTicks {
         count: g.count,

@@ -5,18 +5,16 @@ ghost use Rattle.std.specs.Prelude.{get_or, ◌≡◌, ◌*◌, ◌<◌, ◌≤�
 ghost use Rattle.vocabulary.specs.Tally.{Fresh};
 ghost use Rattle.kinds.specs.Tasks.{Tasks, view};
 ghost use Rattle.kinds.specs.Cycle.{jobs};
-ghost use Rattle.kinds.specs.Plans.{plan};
 ghost use Rattle.kinds.specs.SoundByTests.{CountsFound};
 ghost use Rattle.judge.specs.Answers.{number_of, evidence_of};
 ghost use Rattle.judge.specs.Judgement.{verdict_of, verdict_from};
 ghost use Rattle.judge.specs.Heads.{judged_of};
 ghost use Rattle.judge.specs.JobOfSlot.{Fit};
-ghost use Rattle.judge.specs.RowMarks.{Worded};
 ghost use Rattle.judge.specs.Sweep.{Halted};
 ghost use Rattle.judge.specs.TableNeeds.{PlanNeeds};
-ghost use Rattle.kinds.specs.Build.{lent_tasks, lent_patterns, lent_set};
-ghost use Rattle.judge.specs.Lent.{lent_plan, misplaced_verdict};
+ghost use Rattle.judge.specs.Lent.{tasks_in, patterns_in, set_in, lent_plan, Viewed, plan_in, misplaced_verdict};
 
+use crate::twice::PlanView;
 use kinds::{Attributes, Counts, Headings, Pairs, Task, TaskSet};
 
 mod bases;
@@ -27,7 +25,8 @@ mod links;
 mod twice;
 mod walk;
 
-// The first rule that a plan breaks, with where it does, or that it breaks none.
+// The first rule that a plan breaks, with where it does, or that it breaks none. An enum of its own and not a Result: callers name the eight answers, of which
+// a plan that is accepted is one.
 #[derive(Clone, Copy)]
 pub enum Verdict {
     Accepted,
@@ -43,6 +42,15 @@ pub enum Verdict {
     WrongCount(u32, u32, u32, u32, u32),
     // Pattern, pair, k.
     BrokenLink(u32, u32, u32),
+}
+
+// A sound set as it is lent: its numbers and its tables. The tables have one lifetime, so that the fields of one set can be lent together.
+#[derive(Clone, Copy)]
+struct SetView<'a> {
+    counts: Counts,
+    attributes: &'a Attributes,
+    headings: &'a Headings,
+    pairs: &'a Pairs,
 }
 
 // A task's jobs in the table of a cycle: the number of the first, how many there are, and the task.
@@ -73,92 +81,87 @@ struct LinkSteps {
 }
 
 // Rule 20 or 21, where the walk stopped at slot e: the lowest tick in which a task stands twice; where there is none, slot e lies outside.
-fn misplaced(slots: &[u8], m: usize, h: u32, e: usize) -> Verdict
-    requires { Worded slots.now m h × (0 < m) × (m ≤ 8) × (e < h * m) }
-    ensures { (u : Tasks) → Halted u (plan slots.now m h) e → result ≡ misplaced_verdict u (plan slots.now m h) }
+fn misplaced<'a>(rows: PlanView<'a>, e: usize) -> Verdict
+    requires { Viewed rows × (0 < rows.m) × (rows.m ≤ 8) × (e < rows.h * rows.m) }
+    ensures { (u : Tasks) → Halted u (plan_in rows.entry) e → result ≡ misplaced_verdict u (plan_in rows.entry) }
 {
-    let c = twice::first_twice(slots, m, h);
-    if c < h {
-        let q = twice::first_mated(slots, m, h, c);
-        let r = twice::mate_of(slots, m, h, c, q);
-        return Verdict::Twice(c, q as u32, r as u32);
+    if let Some(v) = rows.judge_twice() {
+        return v;
     }
-    Verdict::Outside((e / m) as u32, (e % m) as u32)
+    Verdict::Outside((e / rows.m) as u32, (e % rows.m) as u32)
 }
 
 // Rules 20 to 23, by one walk over the slots that fills a table with a row for each job: how many ticks it gets, the first and the last.
-fn judge_rows(
-    f: Counts,
-    attributes: &Attributes,
-    headings: &Headings,
-    pairs: &Pairs,
-    slots: &[u8],
-    rows: &mut [[u32; 3]],
-) -> Verdict
-    requires { PlanNeeds (lent_tasks f attributes.now) (lent_patterns f headings.now pairs.now) (lent_plan f slots.now)
-        × Fit (lent_tasks f attributes.now) (lent_plan f slots.now) × Fresh (jobs (lent_tasks f attributes.now)) rows.old }
-    ensures { result ≡ verdict_from 20 (lent_tasks f attributes.now) (lent_patterns f headings.now pairs.now)
-        (lent_plan f slots.now) }
+fn judge_rows<'a>(set: SetView<'a>, slots: &[u8], rows: &mut [[u32; 3]]) -> Verdict
+    requires { PlanNeeds (tasks_in set) (patterns_in set) (lent_plan set.counts slots.now) × Fit (tasks_in set) (lent_plan set.counts slots.now)
+        × Fresh (jobs (tasks_in set)) rows.old }
+    ensures { result ≡ verdict_from 20 (tasks_in set.entry) (patterns_in set.entry) (lent_plan set.entry.counts slots.now) }
 {
     let mut base = [0u32; 64];
-    bases::put_first_jobs(f, attributes, &mut base);
-    let e = walk::sweep(f, attributes, &base, slots, rows);
-    if e < slots.len() {
-        return misplaced(slots, f.processors as usize, f.ticks, e);
+    bases::put_first_jobs(set.counts, set.attributes, &mut base);
+    if let Some(e) = walk::sweep(set.counts, set.attributes, &base, slots, rows) {
+        let view = PlanView {
+            slots,
+            m: set.counts.processors as usize,
+            h: set.counts.ticks,
+        };
+        return misplaced(view, e);
     }
-    counts::judge_counts(f, attributes, headings, pairs, &base, rows)
+    counts::judge_counts(set, &base, rows)
 }
 
-// The same, with a table of its own: a set with few jobs pays for a small one.
-fn judge_slots(
-    f: Counts,
-    attributes: &Attributes,
-    headings: &Headings,
-    pairs: &Pairs,
-    slots: &[u8],
-) -> Verdict
-    requires { PlanNeeds (lent_tasks f attributes.now) (lent_patterns f headings.now pairs.now) (lent_plan f slots.now)
-        × Fit (lent_tasks f attributes.now) (lent_plan f slots.now) × (f.jobs ≡ jobs (lent_tasks f attributes.now)) }
-    ensures { result ≡ verdict_from 20 (lent_tasks f attributes.now) (lent_patterns f headings.now pairs.now)
-        (lent_plan f slots.now) }
+// The same, with a table of its own for N jobs at most.
+fn judge_in<'a, const N: usize>(set: SetView<'a>, slots: &[u8]) -> Verdict
+    requires { PlanNeeds (tasks_in set) (patterns_in set) (lent_plan set.counts slots.now) × Fit (tasks_in set) (lent_plan set.counts slots.now)
+        × (set.counts.jobs ≡ jobs (tasks_in set)) × (set.counts.jobs ≤ N) × (N ≤ 2048) }
+    ensures { result ≡ verdict_from 20 (tasks_in set.entry) (patterns_in set.entry) (lent_plan set.entry.counts slots.now) }
 {
-    let n = f.jobs as usize;
-    if n <= 64 {
-        let mut few = [[0u32; 3]; 64];
-        return judge_rows(f, attributes, headings, pairs, slots, &mut few[..n]);
-    }
-    let mut rows = [[0u32; 3]; 2048];
-    judge_rows(f, attributes, headings, pairs, slots, &mut rows[..n])
+    let mut rows = [[0u32; 3]; N];
+    judge_rows(set, slots, &mut rows[..set.counts.jobs as usize])
 }
 
-// Rules 11 to 23, over the numbers and tables of a sound set. The tables have one lifetime, so that the fields of one set can be lent together.
-fn judge_tables<'a>(
-    f: Counts,
-    attributes: &'a Attributes,
-    headings: &'a Headings,
-    pairs: &'a Pairs,
-    slots: &[u8],
-) -> Verdict
-    requires { CountsFound (lent_set f attributes.now headings.now pairs.now) f }
-    ensures { result ≡ verdict_of (lent_set f attributes.now headings.now pairs.now) slots.now }
+// The same: a set with few jobs pays for a small table.
+fn judge_slots<'a>(set: SetView<'a>, slots: &[u8]) -> Verdict
+    requires { PlanNeeds (tasks_in set) (patterns_in set) (lent_plan set.counts slots.now) × Fit (tasks_in set) (lent_plan set.counts slots.now)
+        × (set.counts.jobs ≡ jobs (tasks_in set)) }
+    ensures { result ≡ verdict_from 20 (tasks_in set.entry) (patterns_in set.entry) (lent_plan set.entry.counts slots.now) }
 {
-    if slots.len() != f.processors as usize * f.ticks as usize {
+    if set.counts.jobs <= 64 {
+        return judge_in::<64>(set, slots);
+    }
+    judge_in::<2048>(set, slots)
+}
+
+// Rules 11 to 23, over the numbers and tables of a sound set.
+fn judge_tables<'a>(set: SetView<'a>, slots: &[u8]) -> Verdict
+    requires { CountsFound (set_in set) set.counts }
+    ensures { result ≡ verdict_of (set_in set.entry) slots.now }
+{
+    if slots.len() != set.counts.processors as usize * set.counts.ticks as usize {
         return Verdict::WrongLength;
     }
-    if let Some(e) = slots::first_high(slots, f.tasks) {
+    let e = slots::first_high(slots, set.counts.tasks);
+    if e < slots.len() {
         return Verdict::BadSlot(e);
     }
-    judge_slots(f, attributes, headings, pairs, slots)
+    judge_slots(set, slots)
 }
 
 // The verdict on a plan for a task set.
 pub fn judge(set: TaskSet, plan: &[u8]) -> Verdict
     ensures { result ≡ verdict_of (view set) plan.now }
 {
-    let Some(f) = kinds::counts_of(set) else {
+    let f = kinds::counts_of(set);
+    if f.ticks == 0 {
         return Verdict::BadSet;
+    }
+    let lent = SetView {
+        counts: f,
+        attributes: &set.attributes,
+        headings: &set.headings,
+        pairs: &set.pairs,
     };
-    judge_tables(f, &set.attributes, &set.headings, &set.pairs, plan)
+    judge_tables(lent, plan)
 }
 
 // The verdict on a set that is given as the head of a file; bytes that are no head, or more than one, are 10. It copies no set.
@@ -172,7 +175,13 @@ pub fn judge_head(tasks: &[u8], plan: &[u8]) -> Verdict
     if f.ticks == 0 {
         return Verdict::BadSet;
     }
-    judge_tables(f, &attributes, &headings, &pairs, plan)
+    let head = SetView {
+        counts: f,
+        attributes: &attributes,
+        headings: &headings,
+        pairs: &pairs,
+    };
+    judge_tables(head, plan)
 }
 
 // The number of a verdict: 0, 10, 11, 12, or 20 to 23.
@@ -199,19 +208,14 @@ pub fn evidence_of(v: Verdict, which: u32) -> usize
         Verdict::Accepted => 0,
         Verdict::BadSet => 0,
         Verdict::WrongLength => 0,
-        Verdict::BadSlot(e) => evidence::number_at(which, &[e]),
-        Verdict::Twice(t, q, r) => evidence::number_at(
-            which,
-            &[t as usize, q as usize, r as usize],
+        Verdict::BadSlot(e) => evidence::one_of(which, e),
+        Verdict::Twice(t, q, r) => evidence::three_of(which, t as usize, q as usize, r as usize),
+        Verdict::Outside(t, q) => evidence::two_of(which, t as usize, q as usize),
+        Verdict::WrongCount(i, k, c, a, b) => evidence::five_of(
+            which, i as usize, k as usize, c as usize, a as usize, b as usize,
         ),
-        Verdict::Outside(t, q) => evidence::number_at(which, &[t as usize, q as usize]),
-        Verdict::WrongCount(i, k, c, a, b) => evidence::number_at(
-            which,
-            &[i as usize, k as usize, c as usize, a as usize, b as usize],
-        ),
-        Verdict::BrokenLink(k, q, n) => evidence::number_at(
-            which,
-            &[k as usize, q as usize, n as usize],
+        Verdict::BrokenLink(k, q, n) => evidence::three_of(
+            which, k as usize, q as usize, n as usize,
         ),
     }
 }

@@ -1,15 +1,16 @@
 // Rule 23 (R10.5 in docs/RULES.md): a link is broken.
 ghost use Rattle.std.specs.Prelude.{◌≡◌};
-ghost use Rattle.vocabulary.specs.Least.{least};
+ghost use Rattle.vocabulary.specs.Least.{lowest};
 ghost use Rattle.kinds.specs.Links.{repeats};
-ghost use Rattle.judge.specs.Rules.{breaks, broken_pair};
+ghost use Rattle.judge.specs.Rules.{breaks};
 ghost use Rattle.judge.specs.Judgement.{verdict_from};
+ghost use Rattle.judge.specs.Searches.{broken_pair_of};
 ghost use Rattle.judge.specs.TableNeeds.{steps_of, StepsNeeds, PairOf, PatternOf, LinkNeeds};
-ghost use Rattle.kinds.specs.Build.{lent_tasks, lent_patterns};
+ghost use Rattle.judge.specs.Lent.{tasks_in, patterns_in};
 
 use crate::gets::{got, lane_of};
-use crate::{LinkSteps, Verdict};
-use kinds::{Attributes, Counts, Headings, Pairs, Pattern};
+use crate::{LinkSteps, SetView, Verdict};
+use kinds::{Attributes, Pairs, Pattern};
 
 // How the links of a pattern step.
 fn steps_of(h: u32, attributes: &Attributes, base: &[u32; 64], p: Pattern) -> LinkSteps
@@ -28,72 +29,62 @@ fn steps_of(h: u32, attributes: &Attributes, base: &[u32; 64], p: Pattern) -> Li
     }
 }
 
-// The lowest broken link of the pair at place x, or how many it has.
-fn broken_link(pairs: &Pairs, rows: &[[u32; 3]], g: LinkSteps, x: usize) -> u32
+// The lowest broken link of the pair at place x.
+fn broken_link(pairs: &Pairs, rows: &[[u32; 3]], g: LinkSteps, x: usize) -> Option<u32>
     requires { PairOf pairs.now rows.now g x }
     ensures { (w : PairOf pairs.now rows.now g x)
-        → result ≡ least (breaks w.tasks w.patterns w.plan w.pattern w.pair) (repeats w.tasks w.patterns w.pattern) }
+        → result ≡ lowest (breaks w.tasks w.patterns w.plan w.pattern w.pair) (repeats w.tasks w.patterns w.pattern) }
 {
     let pair = kinds::pair_at(pairs, x);
     let mut i = pair.first;
     let mut j = pair.second;
-    let mut n: u32 = 0;
-    while n < g.rounds {
+    for n in 0..g.rounds {
         let a = got(rows, g.from, i);
         let b = got(rows, g.to, j);
         if b.first <= a.last {
-            return n;
+            return Some(n);
         }
-        n += 1;
         i += g.first;
         j += g.second;
     }
-    n
+    None
 }
 
-// The lowest of n pairs from a place on that has a broken link, or n.
-fn broken_pair(pairs: &Pairs, rows: &[[u32; 3]], g: LinkSteps, start: usize, n: usize) -> usize
+// The lowest of n pairs from a place on that has a broken link, and its lowest.
+fn broken_pair(
+    pairs: &Pairs,
+    rows: &[[u32; 3]],
+    g: LinkSteps,
+    start: usize,
+    n: usize,
+) -> Option<(usize, u32)>
     requires { PatternOf pairs.now rows.now g start n }
     ensures { (w : PatternOf pairs.now rows.now g start n)
-        → result ≡ least (broken_pair w.tasks w.patterns w.plan w.pattern) n }
+        → result ≡ broken_pair_of w.tasks w.patterns w.plan w.pattern n }
 {
-    let mut q: usize = 0;
-    while q < n {
-        if broken_link(pairs, rows, g, start + q) < g.rounds {
-            return q;
+    for q in 0..n {
+        if let Some(r) = broken_link(pairs, rows, g, start + q) {
+            return Some((q, r));
         }
-        q += 1;
     }
-    q
+    None
 }
 
 // The lowest broken link of the patterns, or accepted.
-pub(crate) fn judge_links(
-    f: Counts,
-    attributes: &Attributes,
-    headings: &Headings,
-    pairs: &Pairs,
-    base: &[u32; 64],
-    rows: &[[u32; 3]],
-) -> Verdict
-    requires { LinkNeeds f.tasks f.ticks attributes.now base.now (lent_patterns f headings.now pairs.now) rows.now }
-    ensures { (w : LinkNeeds f.tasks f.ticks attributes.now base.now
-        (lent_patterns f headings.now pairs.now) rows.now)
-        → result ≡ verdict_from 23 (lent_tasks f attributes.now) (lent_patterns f headings.now pairs.now) w.counted.plan }
+pub(crate) fn judge_links<'a>(set: SetView<'a>, base: &[u32; 64], rows: &[[u32; 3]]) -> Verdict
+    requires { LinkNeeds set.counts.tasks set.counts.ticks set.attributes.now base.now (patterns_in set) rows.now }
+    ensures { (w : LinkNeeds set.entry.counts.tasks set.entry.counts.ticks set.entry.attributes.now base.now (patterns_in set.entry) rows.now)
+        → result ≡ verdict_from 23 (tasks_in set.entry) (patterns_in set.entry) w.counted.plan }
 {
     let mut start: usize = 0;
-    let mut k: usize = 0;
-    while k < f.patterns {
-        let p = kinds::pattern_at(headings, k);
-        let g = steps_of(f.ticks, attributes, base, p);
+    for k in 0..set.counts.patterns {
+        let p = kinds::pattern_at(set.headings, k);
+        let g = steps_of(set.counts.ticks, set.attributes, base, p);
         let n = p.pairs as usize;
-        let q = broken_pair(pairs, rows, g, start, n);
-        if q < n {
-            let r = broken_link(pairs, rows, g, start + q);
+        if let Some((q, r)) = broken_pair(set.pairs, rows, g, start, n) {
             return Verdict::BrokenLink(k as u32, q as u32, r);
         }
         start += n;
-        k += 1;
     }
     Verdict::Accepted
 }

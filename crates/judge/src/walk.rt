@@ -1,9 +1,9 @@
 // One walk over the slots: rules 20 and 21, and what each job gets.
 ghost use Rattle.std.specs.Prelude.{◌≡◌, ◌*◌, ◌/◌, ◌≤◌, ◌<◌, length};
-ghost use Rattle.vocabulary.specs.Tally.{count_at, Earlier, Later, Noted, Fresh};
+ghost use Rattle.vocabulary.specs.Tally.{count_at, Noted, Fresh};
 ghost use Rattle.kinds.specs.Cycle.{jobs};
 ghost use Rattle.laws.specs.Window.{time_of};
-ghost use Rattle.judge.specs.JobOfSlot.{Fit, FirstJobs, job_key, Walked, Visited};
+ghost use Rattle.judge.specs.JobOfSlot.{Fit, FirstJobs, job_at, Walked, Visited};
 ghost use Rattle.judge.specs.Sweep.{Swept};
 ghost use Rattle.kinds.specs.Build.{lent_tasks};
 ghost use Rattle.judge.specs.Lent.{lent_plan};
@@ -11,39 +11,17 @@ ghost use Rattle.judge.specs.Lent.{lent_plan};
 use crate::leaves::{has_slot, mark};
 use kinds::{Attributes, Counts, Task};
 
-fn earlier(c: u32, a: u32, x: u32) -> u32
-    ensures { Earlier c a x result }
-{
-    if c == 0 {
-        return x;
-    }
-    if x < a {
-        return x;
-    }
-    a
-}
-
-fn later(c: u32, a: u32, x: u32) -> u32
-    ensures { Later c a x result }
-{
-    if c == 0 {
-        return x;
-    }
-    if a < x {
-        return x;
-    }
-    a
-}
-
 // Notes time x under number j.
 fn note(rows: &mut [[u32; 3]], j: usize, x: u32)
     requires { (j < length rows.old) × (count_at rows.old j ≤ 48000) }
     ensures { Noted j x rows.old rows.new }
 {
-    let r = rows[j];
-    let a = earlier(r[0], r[1], x);
-    let b = later(r[0], r[2], x);
-    rows[j] = [r[0] + 1, a, b];
+    let [count, first, last] = rows[j];
+    rows[j] = if count == 0 {
+        [1, x, x]
+    } else {
+        [count + 1, first.min(x), last.max(x)]
+    };
 }
 
 // The time of slot tick c that lies in the cycle from o on.
@@ -57,16 +35,16 @@ fn time_of(h: u32, o: u32, c: u32) -> u32
     c + h
 }
 
-// The number of the job of task t in whose window slot tick c lies, where b is the number of its first job; 2048 for none.
-fn job_key(h: u32, t: Task, b: u32, c: u32) -> u32
+// The number of the job of task t in whose window slot tick c lies, where b is the number of its first job.
+fn job_at(h: u32, t: Task, b: u32, c: u32) -> Option<u32>
     requires { (h ≤ 6000) × (c < h) × (0 < t.period) × (t.offset ≤ h) × (b ≤ 2048) }
-    ensures { result ≡ job_key h t b c }
+    ensures { result ≡ job_at h t b c }
 {
     let r = time_of(h, t.offset, c) - t.offset;
     if r % t.period < t.deadline {
-        return b + r / t.period;
+        return Some(b + r / t.period);
     }
-    2048
+    None
 }
 
 // Notes the slot at place e, of tick c, or says that its task has no window there.
@@ -83,53 +61,46 @@ fn visit(
         × (e < f.ticks * f.processors) × (c ≡ e / f.processors) × Walked (lent_tasks f attributes.now) (lent_plan f slots.now) e rows.old }
     ensures { Visited (lent_tasks f attributes.now) (lent_plan f slots.now) e result rows.new }
 {
-    let v = slots[e] as usize;
+    let v = usize::from(slots[e]);
     if v == 0 {
         return false;
     }
     let i = v - 1;
     let t = kinds::task_at(attributes, i);
-    let k = job_key(f.ticks, t, base[i], c) as usize;
-    if rows.len() <= k {
+    let Some(k) = job_at(f.ticks, t, base[i], c) else {
         return true;
-    }
-    note(rows, k, time_of(f.ticks, t.offset, c));
+    };
+    note(rows, k as usize, time_of(f.ticks, t.offset, c));
     false
 }
 
-// Walks over the slots, up to the first that breaks rule 20 or 21. Where it comes to the end, the table tells what each job gets.
+// Walks over the slots, up to the first that breaks rule 20 or 21, which it answers. Where none does, the table tells what each job gets.
 pub(crate) fn sweep(
     f: Counts,
     attributes: &Attributes,
     base: &[u32; 64],
     slots: &[u8],
     rows: &mut [[u32; 3]],
-) -> usize
+) -> Option<usize>
     requires { Fit (lent_tasks f attributes.now) (lent_plan f slots.now) × FirstJobs (lent_tasks f attributes.now) base.now
         × Fresh (jobs (lent_tasks f attributes.now)) rows.old }
     ensures { Swept (lent_tasks f attributes.now) (lent_plan f slots.now) result rows.new }
 {
     let m = f.processors as usize;
-    let mut e: usize = 0;
-    let mut q: usize = 0;
-    let mut c: u32 = 0;
-    let mut x: u64 = 0;
-    while e < slots.len() {
-        let v = slots[e];
-        if has_slot(x, v) {
-            return e;
-        }
-        if visit(f, attributes, base, slots, e, c, rows) {
-            return e;
-        }
-        x = mark(x, v);
-        e += 1;
-        q += 1;
-        if q == m {
-            q = 0;
-            c += 1;
-            x = 0;
+    for c in 0..f.ticks {
+        let start = c as usize * m;
+        let mut x: u64 = 0;
+        for q in 0..m {
+            let e = start + q;
+            let v = slots[e];
+            if has_slot(x, v) {
+                return Some(e);
+            }
+            if visit(f, attributes, base, slots, e, c, rows) {
+                return Some(e);
+            }
+            x = mark(x, v);
         }
     }
-    e
+    None
 }

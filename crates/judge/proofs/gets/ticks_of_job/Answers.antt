@@ -1,33 +1,28 @@
 use native.Mathlib.Omega.{arith}
 use mathlib.Core.Path.{refl}
-use Rattle.judge.proofs.LaneLaws.{ask_here, ask_release, ask_times, lane_none, lane_some}
+use Rattle.judge.proofs.LaneLaws.{ask_here, ask_release, lane_none, lane_some}
 use Rattle.judge.proofs.gets.ticks_of_job.Goals as goal
 
-pub overflow_add-row : goal.overflow_add-row
-overflow_add-row c = omega (arith, ask_here c.requires.0 c.requires.1)
+pub overflow_add-count : goal.overflow_add-count
+overflow_add-count c = omega (arith, ask_here c.requires.0 c.requires.1)
 
 pub bounds-rows-l : goal.bounds-rows-l
 bounds-rows-l c = omega (arith, ask_here c.requires.0 c.requires.1)
 
-pub overflow_mul-o : goal.overflow_mul-o
-overflow_mul-o c = omega (arith, ask_release c.requires.0 c.requires.1)
-
-pub overflow_add-o : goal.overflow_add-o
-overflow_add-o c = omega (arith, ask_release c.requires.0 c.requires.1)
-
-pub overflow_cast-o : goal.overflow_cast-o
-overflow_cast-o c = omega (arith, ask_release c.requires.0 c.requires.1)
-
-pub returns-then-row-eq0 : goal.returns-then-row-eq0
-returns-then-row-eq0 c = λ t. lane_none t c.requires.1 refl c.if-row-eq0.true
-
-pub overflow_cast-result : goal.overflow_cast-result
-overflow_cast-result c = let p = c.requires in
-    omega (arith, ask_times p.0 p.1 (lane_some p.0 p.1 refl c.if-row-eq0.false))
-
-pub overflow_cast-result-2 : goal.overflow_cast-result-2
-overflow_cast-result-2 c = let p = c.requires in
-    omega (arith, ask_times p.0 p.1 (lane_some p.0 p.1 refl c.if-row-eq0.false))
+pub returns-then-count-eq0 : goal.returns-then-count-eq0
+returns-then-count-eq0 c = rw c.from-o.ensures λ t. lane_none t c.requires.1 refl c.if-count-eq0.true
 
 pub returns : goal.returns
-returns c = λ t. lane_some t c.requires.1 refl c.if-row-eq0.false
+returns c = rw (c.from.ensures, c.from-2.ensures) λ t. lane_some t c.requires.1 refl c.if-count-eq0.false
+
+pub overflow_mul-k : goal.overflow_mul-k
+overflow_mul-k c = omega (arith, ask_release c.requires.0 c.requires.1)
+
+pub overflow_add-l : goal.overflow_add-l
+overflow_add-l c = omega (arith, ask_release c.requires.0 c.requires.1)
+
+pub bounds-rows-l-2 : goal.bounds-rows-l-2
+bounds-rows-l-2 c = omega (arith, ask_here c.requires.0 c.requires.1)
+
+pub bounds-rows-l-3 : goal.bounds-rows-l-3
+bounds-rows-l-3 c = omega (arith, ask_here c.requires.0 c.requires.1)

@@ -1,6 +1,6 @@
 use native.Mathlib.Omega.{arith}
-use Rattle.vocabulary.proofs.Least.{seek, on, hit, miss}
-use Rattle.judge.proofs.LinkTableLaws.{pair_is, pair_from, pair_to, pair_jobs, link_yes, link_no, rounds_few, rounds_low, rounds_high}
+use Rattle.vocabulary.proofs.Least.{seek, on, found, nowhere}
+use Rattle.judge.proofs.LinkTableLaws.{pair_is, pair_from, pair_to, pair_jobs, link_yes, link_no, rounds_low, rounds_high}
 use Rattle.judge.proofs.links.broken_link.Goals as goal
 
 pub loop-n-init : goal.loop-n-init
@@ -15,10 +15,7 @@ got-b-requires c = pair_to c.requires
 
 pub returns-then-b-a : goal.returns-then-b-a
 returns-then-b-a c = let l = c.loop-n.invariant in
-    λ w. hit _ _ _ (l.2 w) (link_yes w l.0 l.1 c.loop-n-test.true (c.got-a.ensures (pair_from w)) (c.got-b.ensures (pair_to w)) c.if-b-a.true)
-
-pub overflow_add-n : goal.overflow_add-n
-overflow_add-n c = omega (arith, rounds_few c.requires, c.loop-n-test.true)
+    λ w. found _ _ _ (l.2 w) (rounds_low w c.loop-n-test.true) (link_yes w l.0 l.1 c.loop-n-test.true (c.got-a.ensures (pair_from w)) (c.got-b.ensures (pair_to w)) c.if-b-a.true)
 
 pub overflow_add-i : goal.overflow_add-i
 overflow_add-i c = let l = c.loop-n.invariant in
@@ -37,4 +34,4 @@ loop-n-preserved c = let l = c.loop-n.invariant in
     )
 
 pub returns : goal.returns
-returns c = λ w. miss _ _ _ (c.loop-n.invariant.2 w) (rounds_high w c.loop-n-test.false)
+returns c = λ w. nowhere _ _ _ (c.loop-n.invariant.2 w) (rounds_high w c.loop-n-test.false)

@@ -1,4 +1,3 @@
-use Prim.Native.Nat.{◌-◌}
 use Rattle.vocabulary.specs.Least.{Seeking}
 use Rattle.judge.specs.Rules.{broken_pair}
 use Rattle.judge.specs.TableNeeds.{PatternOf}
@@ -6,6 +5,3 @@ use Rattle.judge.proofs.links.broken_pair.Given as goal
 
 abbrev pub invariant-loop-q : goal.invariant-loop-q
 invariant-loop-q l = (w : PatternOf l.pairs l.rows l.g l.start l.n) → Seeking (broken_pair w.tasks w.patterns w.plan w.pattern) l.n l.q
-
-abbrev pub decreases-loop-q : goal.decreases-loop-q
-decreases-loop-q l = l.n - l.q

@@ -1,6 +1,6 @@
 use native.Mathlib.Omega.{arith}
 use Rattle.vocabulary.proofs.Least.{seek, on}
-use Rattle.judge.proofs.LinkTableLaws.{pattern_few, steps_needs, pattern_of, pairs_room, pattern_pair, pattern_no, start_from, start_on, link_found, links_end}
+use Rattle.judge.proofs.LinkTableLaws.{pattern_few, steps_needs, pattern_of, pairs_room, pattern_no, found_low, start_from, start_on, link_found, links_end}
 use Rattle.judge.proofs.links.judge_links.Goals as goal
 
 pub loop-k-init : goal.loop-k-init
@@ -9,38 +9,31 @@ loop-k-init c = (start_from _, λ w. seek _ _)
 pub steps_of-g-requires : goal.steps_of-g-requires
 steps_of-g-requires c = steps_needs c.requires c.loop-k-test.true c.pattern_at-p.ensures
 
-pub broken_pair-q-requires : goal.broken_pair-q-requires
-broken_pair-q-requires c = pattern_of c.requires c.loop-k-test.true c.pattern_at-p.ensures c.steps_of-g.ensures c.loop-k.invariant.0
-
-pub overflow_add-start : goal.overflow_add-start
-overflow_add-start c = omega (arith, pairs_room (pattern_of c.requires c.loop-k-test.true c.pattern_at-p.ensures c.steps_of-g.ensures c.loop-k.invariant.0), c.if-q-n.true)
-
-pub broken_link-r-requires : goal.broken_link-r-requires
-broken_link-r-requires c = pattern_pair (pattern_of c.requires c.loop-k-test.true c.pattern_at-p.ensures c.steps_of-g.ensures c.loop-k.invariant.0) c.if-q-n.true
+pub broken_pair-requires : goal.broken_pair-requires
+broken_pair-requires c = pattern_of c.requires c.loop-k-test.true c.pattern_at-p.ensures c.steps_of-g.ensures c.loop-k.invariant.0
 
 pub overflow_cast-result : goal.overflow_cast-result
 overflow_cast-result c = omega (arith, pattern_few c.requires c.loop-k-test.true)
 
-pub overflow_cast-result-then-q-n : goal.overflow_cast-result-then-q-n
-overflow_cast-result-then-q-n c = omega (arith, pairs_room (pattern_of c.requires c.loop-k-test.true c.pattern_at-p.ensures c.steps_of-g.ensures c.loop-k.invariant.0), c.if-q-n.true)
+pub overflow_cast-result-in-Some : goal.overflow_cast-result-in-Some
+overflow_cast-result-in-Some c =
+    let z = pattern_of c.requires c.loop-k-test.true c.pattern_at-p.ensures c.steps_of-g.ensures c.loop-k.invariant.0 in
+    omega (arith, pairs_room z, found_low _ _ _ _ z.count (c.in-Some.ensures z))
 
-pub returns-then-q-n : goal.returns-then-q-n
-returns-then-q-n c = λ w.
+pub returns-in-Some : goal.returns-in-Some
+returns-in-Some c = λ w.
     let z = pattern_of w c.loop-k-test.true c.pattern_at-p.ensures c.steps_of-g.ensures c.loop-k.invariant.0 in
-    link_found _ _ _ _ z.count (c.broken_pair-q.ensures z) (c.loop-k.invariant.1 w) c.loop-k-test.true c.if-q-n.true (c.broken_link-r.ensures (pattern_pair z c.if-q-n.true))
+    link_found _ _ _ _ z.count (c.in-Some.ensures z) (c.loop-k.invariant.1 w) c.loop-k-test.true
 
-pub overflow_add-start-in-loop-k : goal.overflow_add-start-in-loop-k
-overflow_add-start-in-loop-k c = omega (arith, pairs_room (pattern_of c.requires c.loop-k-test.true c.pattern_at-p.ensures c.steps_of-g.ensures c.loop-k.invariant.0))
-
-pub overflow_add-k : goal.overflow_add-k
-overflow_add-k c = omega (arith, pattern_few c.requires c.loop-k-test.true)
+pub overflow_add-start : goal.overflow_add-start
+overflow_add-start c = omega (arith, pairs_room (pattern_of c.requires c.loop-k-test.true c.pattern_at-p.ensures c.steps_of-g.ensures c.loop-k.invariant.0))
 
 pub loop-k-preserved : goal.loop-k-preserved
 loop-k-preserved c = let y = pattern_of c.requires c.loop-k-test.true c.pattern_at-p.ensures c.steps_of-g.ensures c.loop-k.invariant.0 in (
   start_on _ _ c.loop-k.invariant.0 y.count,
   λ w.
       let z = pattern_of w c.loop-k-test.true c.pattern_at-p.ensures c.steps_of-g.ensures c.loop-k.invariant.0 in
-      on _ _ _ (c.loop-k.invariant.1 w) c.loop-k-test.true (pattern_no _ _ _ _ z.count (c.broken_pair-q.ensures z) c.if-q-n.false),
+      on _ _ _ (c.loop-k.invariant.1 w) c.loop-k-test.true (pattern_no _ _ _ _ z.count (c.in_default.ensures z)),
 )
 
 pub returns : goal.returns

@@ -1,7 +1,7 @@
 use mathlib.Core.Path.{sym, ◌∙◌}
 use borrow.Author.Tests.{le-ltb, lt-ltb, eq-eqb, ne_eqb}
 use Rattle.judge.specs.Rules.{twin}
-use Rattle.judge.proofs.twice.are_twins.Goals as goal
+use Rattle.judge.proofs.twice.PlanView.are_twins.Goals as goal
 
 pub returns-then-r-q : goal.returns-then-r-q
 unfolding twin
