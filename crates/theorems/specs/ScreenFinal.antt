@@ -1,5 +1,5 @@
 -- A finding is final: no plan of a set with a finding is valid.
-use Rattle.std.specs.Prelude.{◌≡◌, refl, Bool, true, ◌&&◌, List, ◌⊎◌, ltb, pos}
+use Rattle.std.specs.Prelude.{◌≡◌, refl, Bool, true, ◌&&◌, List, ◌⊎◌, ltb, pos, None}
 use Rattle.std.proofs.Common.{sym, ◌∙◌, inl, inr}
 use Rattle.std.proofs.Math.Path.{ap}
 use Prim.Native.Nat.{ℕ, ◌+◌, ◌-◌, ◌<◌, ◌≤◌}
@@ -131,12 +131,12 @@ module _ (s : Set) (f : Sound s) (slots : List ℕ) (valid : Valid s (plan_of s 
       )
 
 -- ==== A set that has a valid plan has no finding.
-pub no_finding : (s : Set) → sound s ≡ true → (slots : List ℕ) → Valid s (plan_of s slots) → finding_of s ≡ finding.Nothing
+pub no_finding : (s : Set) → sound s ≡ true → (slots : List ℕ) → Valid s (plan_of s slots) → finding_of s ≡ None
 unfolding Finds
 no_finding s e slots valid =
     let f : Sound s = sound_facts s e in
     let free : NoCycle s.tasks s.patterns = none_on_cycle s f slots valid in
-    sym (only_finding s finding.Nothing
+    sym (only_finding s None
     (record {
       is_sound = e;
       no_cycle_lem = free;
@@ -145,5 +145,5 @@ no_finding s e slots valid =
     }))
 
 -- ==== So a finding is final: after one, no plan of the set is valid, whatever its slots.
-pub finding_final : (s : Set) → sound s ≡ true → (finding_of s ≡ finding.Nothing → ⊥) → (slots : List ℕ) → Valid s (plan_of s slots) → ⊥
+pub finding_final : (s : Set) → sound s ≡ true → (finding_of s ≡ None → ⊥) → (slots : List ℕ) → Valid s (plan_of s slots) → ⊥
 finding_final s e h slots valid = h (no_finding s e slots valid)
