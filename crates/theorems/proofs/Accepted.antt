@@ -5,7 +5,6 @@ use Rattle.kinds.specs.Plans.{plan_of}
 use Rattle.kinds.specs.Valid.{Valid}
 use Rattle.judge.specs.declared.Verdict.TheVariants as verdict
 use Rattle.judge.specs.Judgement.{verdict_of}
-use Rattle.screen.specs.declared.Finding.TheVariants as finding
 use Rattle.screen.specs.Findings.{finding_of}
 use Rattle.theorems.specs.Demand2.{accepted_iff}
 use Rattle.theorems.specs.ScreenFinal.{no_finding}

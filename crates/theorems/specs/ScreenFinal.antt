@@ -22,7 +22,6 @@ use Rattle.kinds.specs.Valid.{TickOf, Valid}
 use Rattle.kinds.specs.Sound.{sound}
 use Rattle.kinds.proofs.SoundFacts.{Sound, sound_facts}
 use Rattle.laws.proofs.Order.{task_low, task_of_number, job_of_number}
-use Rattle.screen.specs.declared.Finding.TheVariants as finding
 use Rattle.network.specs.Network.{network}
 use Rattle.network.specs.NetworkLaws.{jobs_of_network, inside_network, inner_low, Made, each_made}
 use Rattle.network.specs.Times.{own_release, own_due, own_running, release_by, adjusted_release}
