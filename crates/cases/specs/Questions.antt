@@ -1,5 +1,5 @@
 -- What can be asked of the definitions, and what they answer, in the numbers of docs/RULES.md.
-use Rattle.std.specs.Prelude.{◌≡◌, List, [], ◌∷◌, map, ℕ, suc, ◌+◌, ◌^◌, eqb, ℤ, length, get_or, Result}
+use Rattle.std.specs.Prelude.{◌≡◌, List, [], ◌∷◌, map, ℕ, suc, ◌+◌, ◌^◌, eqb, ℤ, length, get_or, Result, Option}
 use Rattle.vocabulary.specs.Test.{pick}
 use Rattle.vocabulary.specs.Table.{table, gather}
 use Rattle.kinds.specs.Tasks.{Tasks, Set, tasks_of, patterns_of, deadline}
@@ -20,7 +20,7 @@ use Rattle.judge.specs.Judgement.{verdict_of}
 use Rattle.judge.specs.Heads.{judged_of}
 use Rattle.judge.specs.Answers as judgeAnswers
 use Rattle.screen.specs.declared.Finding.{Finding}
-use Rattle.screen.specs.declared.Adjusted.{Adjusted}
+use Rattle.screen.specs.Answers.{Adjusted}
 use Rattle.screen.specs.Findings.{finding_of, adjusted_of, releases_left, deadlines_left}
 use Rattle.screen.specs.Heads.{screened_of, adjusted_head, releases_kept, deadlines_kept}
 use Rattle.network.specs.Times.{adjusted_deadline}
@@ -89,7 +89,7 @@ number_reply s =
     pick (eqb (numeral_number n) 0) (is (get_or (numeral_evidence n (length s) 0) 0 0)) (refused_by (numeral_number n))
 
 -- number and evidence of an answer
-abbrev pub finding_said : Finding → List ℕ
+abbrev pub finding_said : Option Finding → List ℕ
 finding_said f = screenAnswers.finding_number f ∷ screenAnswers.finding_evidence f
 
 abbrev pub adjusted_said : Adjusted → List ℕ

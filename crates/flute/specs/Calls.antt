@@ -20,7 +20,7 @@ use Rattle.dispatcher.specs.declared.Look.{Look}
 use Rattle.dispatcher.specs.Refusals.{step_rules, answer_by}
 use Rattle.dispatcher.specs.ForC.{StartForC, start_leaves, StepForC, step_leaves, answer_in, step_for}
 use Rattle.dispatcher.specs.Looks.{look_by, look_from, look_in, look_for}
-use Rattle.screen.specs.declared.Adjusted.{Adjusted}
+use Rattle.screen.specs.Answers.{Adjusted}
 use Rattle.screen.specs.Answers.{adjusted_number}
 use Rattle.screen.specs.Heads.{AdjustedBy}
 

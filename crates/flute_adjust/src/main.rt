@@ -5,27 +5,33 @@
 use console::Line;
 use heads::Outcome;
 use kinds::{Attributes, Cycle, TaskSet};
-use screen::Adjusted;
-use std::io::Result;
+use screen::Unadjusted;
+use std::io::Error;
 
 const JOBS: usize = Cycle::MOST_JOBS as usize;
 
 // Evidence, as far as there is some, and words.
-fn put_answer(line: Line, a: Adjusted, jobs: usize) -> Line {
+fn put_answer(line: Line, a: Result<(), Unadjusted>, jobs: usize) -> Line {
     match a {
-        Adjusted::Written => wording::put_counted(line.put(b" adjusted: "), jobs as u64, b" job"),
-        Adjusted::BadSet => line.put(b" the task set is not sound"),
-        Adjusted::WrongLength => line.put(b" a buffer has the wrong length"),
-        Adjusted::Cycle(i, k) => wording::put_on_cycle(line, i, k),
+        Ok(()) => wording::put_counted(line.put(b" adjusted: "), jobs as u64, b" job"),
+        Err(Unadjusted::BadSet) => line.put(b" the task set is not sound"),
+        Err(Unadjusted::WrongLength) => line.put(b" a buffer has the wrong length"),
+        Err(Unadjusted::Cycle(i, k)) => wording::put_on_cycle(line, i, k),
     }
 }
 
-fn print_answer(rt: &impl Print, a: Adjusted, jobs: usize) -> Result<()> {
+fn print_answer(rt: &impl Print, a: Result<(), Unadjusted>, jobs: usize) -> Result<(), Error> {
     let line = Line::new().put_number(screen::adjusted_number_of(a) as u64);
     put_answer(line, a, jobs).put(b"\n").print(rt)
 }
 
-fn print_job(rt: &impl Print, i: usize, k: usize, release: i32, deadline: i32) -> Result<()> {
+fn print_job(
+    rt: &impl Print,
+    i: usize,
+    k: usize,
+    release: i32,
+    deadline: i32,
+) -> Result<(), Error> {
     let line = Line::new().put_column(i as u64, 2).put_column(k as u64, 5);
     line.put_signed_column(release, 7)
         .put_signed_column(deadline, 10)
@@ -41,7 +47,7 @@ fn print_jobs(
     start: usize,
     releases: &[i32],
     deadlines: &[i32],
-) -> Result<usize> {
+) -> Result<usize, Error> {
     let mut x = start;
     for k in 0..n {
         if releases.len() <= x {
@@ -64,7 +70,7 @@ fn print_times(
     h: u32,
     releases: &[i32],
     deadlines: &[i32],
-) -> Result<()> {
+) -> Result<(), Error> {
     let mut x: usize = 0;
     for i in 0..n {
         let t = kinds::task_at(attributes, i);
@@ -83,16 +89,16 @@ fn print_by(
     h: u32,
     releases: &mut [i32],
     deadlines: &mut [i32],
-) -> Result<()> {
+) -> Result<(), Error> {
     let a = screen::adjust(set, releases, deadlines);
     print_answer(rt, a, releases.len())?;
-    match a {
-        Adjusted::Written => print_times(rt, &set.attributes, set.tasks, h, releases, deadlines),
-        _ => Ok(()),
+    if a.is_err() {
+        return Ok(());
     }
+    print_times(rt, &set.attributes, set.tasks, h, releases, deadlines)
 }
 
-fn print_adjusted(rt: &impl Print, set: TaskSet) -> Result<()> {
+fn print_adjusted(rt: &impl Print, set: TaskSet) -> Result<(), Error> {
     let Some(f) = kinds::counts_of(set) else {
         return Ok(());
     };
@@ -105,7 +111,7 @@ fn print_adjusted(rt: &impl Print, set: TaskSet) -> Result<()> {
     print_by(rt, set, f.ticks, &mut releases[..n], &mut deadlines[..n])
 }
 
-fn main(rt: HostRuntime) -> Result<()> {
+fn main(rt: HostRuntime) -> Result<(), Error> {
     let mut file = io::large_buffer();
     let input = console::load(&rt, &mut file)?;
     if !input.open {

@@ -45,7 +45,8 @@ fn put_times_by(
     releases: &mut [i32],
     deadlines: &mut [i32],
 ) -> Line {
-    screen::adjust(set, releases, deadlines);
+    // A refusal leaves the buffers as they are, and what stands there is shown.
+    let _ = screen::adjust(set, releases, deadlines);
     let told = line
         .put(b" between its adjusted release ")
         .put_signed(time_at(releases, x));
@@ -84,13 +85,13 @@ fn put_overload(line: Line, a: u32, b: u32) -> Line {
 }
 
 // A finding's evidence, as far as there is some, and what it means.
-fn put_finding(line: Line, set: TaskSet, f: Finding) -> Line {
+fn put_finding(line: Line, set: TaskSet, f: Option<Finding>) -> Line {
     match f {
-        Finding::Nothing => line.put(b" no finding"),
-        Finding::BadSet => line.put(b" the task set is not sound"),
-        Finding::Cycle(i, k) => wording::put_on_cycle(line, i, k),
-        Finding::Overload(a, b) => put_overload(line, a, b),
-        Finding::TooTight(i, k) => put_tight(line, set, i, k),
+        None => line.put(b" no finding"),
+        Some(Finding::BadSet) => line.put(b" the task set is not sound"),
+        Some(Finding::Cycle(i, k)) => wording::put_on_cycle(line, i, k),
+        Some(Finding::Overload(a, b)) => put_overload(line, a, b),
+        Some(Finding::TooTight(i, k)) => put_tight(line, set, i, k),
     }
 }
 

@@ -1,11 +1,12 @@
 -- The times of a cycle's jobs in a row: own ones, written task by task, and the adjusted ones that rounds leave of them.
 use Rattle.std.specs.Prelude.{◌≡◌, refl, Bool, true, false, ◌&&◌, List, [], ◌∷◌, ◌⊎◌, ℕ, suc, ◌+◌, ◌-◌, ◌*◌, ◌/◌, ◌≤◌, ◌<◌, eqb, ltb, ℤ, pos, get_or, set, Option, Some, None}
-use Rattle.std.proofs.Common.{sym, ◌∙◌, inl, inr, div-add-mod', mul-le-mul, le_refl, add-one, arith, eq-eqb, ne_eqb}
+use Rattle.std.proofs.Common.{sym, ◌∙◌, inl, inr, div-add-mod', mul-le-mul, le_refl, add-one, arith, eq-eqb, ne_eqb, lt-ltb}
 use Rattle.std.proofs.Math.Path.{ap}
 use Rattle.std.proofs.Math.IntN.{sub_ℕ}
 use Rattle.std.proofs.Math.ListN.{length}
 use Rattle.vocabulary.specs.Test.{pick}
 use Rattle.vocabulary.proofs.Test.{clash, lt_or_le}
+use Rattle.vocabulary.specs.Least as least
 use Rattle.vocabulary.specs.Least.{least}
 use Rattle.vocabulary.proofs.Total.{total_none}
 use Rattle.vocabulary.specs.Table.{table}
@@ -24,7 +25,7 @@ use Rattle.graph.specs.JobRows.{starts, ends, Ready, Rounds}
 use Rattle.graph.specs.SearchRows.{SearchAsked}
 use Rattle.graph.specs.Listed.{Weighted}
 use Rattle.graph.proofs.Listed.{settled_rounds, settled_soonest}
-use Rattle.vocabulary.proofs.Least.{some_least, none_least, some_not}
+use Rattle.vocabulary.proofs.Least.{some_least, none_least, some_not, least_is, lowest_some, lowest_none}
 use Rattle.loops.specs.LentLinks.{lowest_in}
 use Rattle.loops.proofs.LentLaws.{lowest_of}
 use Rattle.kinds.specs.declared.Task.{Task}
@@ -35,7 +36,11 @@ use Rattle.kinds.proofs.SoundFacts.{Sound}
 use Rattle.laws.proofs.Order.{before_suc, before_up, number_sum, task_of_number, job_of_number}
 use Rattle.network.specs.Times.{own_release, own_due, own_running}
 use Rattle.network.specs.TimesLaws.{own_release_low, own_due_low, own_running_low}
-use Rattle.network.specs.declared.Lowest.{Lowest}
+use Rattle.network.specs.declared.Job.{Job}
+use Rattle.network.specs.declared.Trouble.{Trouble}
+use Rattle.network.specs.declared.Trouble.TheVariants as trouble
+use Rattle.network.specs.Named.{job_at, JobAsked}
+use Rattle.network.specs.FoundOf.{tight_by}
 use Rattle.network.specs.Placed.{Placed, place_from, place_on}
 
 -- tick 12,000: no own deadline is later
@@ -355,16 +360,18 @@ pub record SolveAsked (u : Tasks) (h : ℕ) (links : List (List ℕ)) (next : Li
   pub long : length next ≡ length links
   pub few_links : length links ≤ 4096
 
-pub record Solved (u : Tasks) (links rows : List (List ℕ)) (r : ℕ) : Type 0 where
+pub record Solved (u : Tasks) (links rows : List (List ℕ)) (r : Option ℕ) : Type 0 where
   pub sized : length rows ≡ jobs u
-  pub answer : r ≡ lowest (graph_of (starts links) (ends links) (jobs u))
-  pub times : jobs u ≤ r → TimesIn u links rows
+  pub answer : r ≡ least.lowest (loops (graph_of (starts links) (ends links) (jobs u))) (jobs u)
+  pub times : r ≡ None → TimesIn u links rows
 
 module _ (u : Tasks) (h : ℕ) (links : List (List ℕ)) (next : List ℕ) (rows rows' : List (List ℕ)) (r : Bool) (a : SolveAsked u h links next rows)
     (q : Quick u links rows rows' r) where
-  pub solved_soon : r ≡ true → Solved u links rows' (length rows')
+  pub solved_soon : r ≡ true → Solved u links rows' None
+  unfolding lowest
   solved_soon e =
-      record { sized = q.sized; answer = q.sized ∙ (q.done e).0; times = λ l. (q.done e).1 }
+      let g : Graph = graph_of (starts links) (ends links) (jobs u) in
+      record { sized = q.sized; answer = lowest_none (loops g) (jobs u) (jobs u) (q.done e).0 (omega arith); times = λ l. (q.done e).1 }
 
   search_asked : SearchAsked links next rows'
   search_asked =
@@ -375,28 +382,22 @@ module _ (u : Tasks) (h : ℕ) (links : List (List ℕ)) (next : List ℕ) (rows
     lowest_is : {x : Option ℕ} → x ≡ lowest_in links (length next) (length rows') → x ≡ lowest_job (graph_of (starts links) (ends links) (jobs u))
     lowest_is ex = ex ∙ lowest_of links next rows' search_asked ∙ ap (λ (n : ℕ). lowest_job (graph_of (starts links) (ends links) n)) q.sized
 
-    pub solved_cycle : {x : ℕ} → Some x ≡ lowest_in links (length next) (length rows') → Solved u links rows'' x
-    unfolding lowest lowest_job
+    pub solved_cycle : {x : ℕ} → Some x ≡ lowest_in links (length next) (length rows') → Solved u links rows'' (Some x)
+    unfolding lowest_job
     solved_cycle {x} ex =
-        let g : Graph = graph_of (starts links) (ends links) (jobs u) in
-        let w = some_least (loops g) (jobs u) x (lowest_is ex) in
-        record { sized = sized ∙ q.sized; answer = w.0; times = λ m. absurd (omega (arith, w.1)) }
+        record { sized = sized ∙ q.sized; answer = lowest_is ex; times = λ m. absurd (let z : ◌≡◌ {A = ℕ} 0 1 = cc m in omega arith) }
 
     pub rounds_asked : RoundsAsked u h links rows''
     rounds_asked = record { own = record { fit = a.rounds.own.fit; sized = sized ∙ q.sized }; between = a.rounds.between }
 
     pub solved_late : None ≡ lowest_in links (length next) (length rows') → (rows''' : List (List ℕ)) (b : Bool)
-        → Adjusts u links rows'' rows''' (length rows'') b → Solved u links rows''' (length rows'')
-    unfolding lowest lowest_job
+        → Adjusts u links rows'' rows''' (length rows'') b → Solved u links rows''' None
+    unfolding lowest_job
     solved_late ex rows''' b p =
         let n : length rows'' ≡ jobs u = sized ∙ q.sized in
         let g : Graph = graph_of (starts links) (ends links) (jobs u) in
         let w = none_least (loops g) (jobs u) (lowest_is ex) in
-        record {
-          sized = p.sized;
-          answer = n ∙ sym w.0;
-          times = λ m. p.enough n (some_not (loops g) (jobs u) w.1);
-        }
+        record { sized = p.sized; answer = lowest_is ex; times = λ m. p.enough n (some_not (loops g) (jobs u) w.1) }
 
 -- ---- 15
 -- job x is tight, in natural numbers
@@ -465,21 +466,64 @@ module _ (rows : List (List ℕ)) (low : LowRows rows) (a b : List ℤ) where
           let f = eq-eqb (length b) (length rows) eb in
           record { releases = h.0 ∙ rw (e, f); deadlines = h.1 ∙ rw (e, f) }
 
--- ---- the lowest jobs, and what is written where no job lies on a cycle
-pub record Worked (u : Tasks) (links rows : List (List ℕ)) (r : Lowest) (a b a' b' : List ℤ) : Type 0 where
-  pub solved : Solved u links rows r.cycle
-  pub none : r.cycle < jobs u → (r.tight ≡ jobs u) × (a' ≡ a) × (b' ≡ b)
-  pub some : jobs u ≤ r.cycle → (r.tight ≡ least (over rows) (length rows)) × Put rows a b a' b'
+-- ---- the job to name, and what is written where no job lies on a cycle
+-- the lowest job on a cycle of links, as many as there are jobs where there is none
+abbrev pub lowest_job : Tasks → List (List ℕ) → ℕ
+lowest_job u links = lowest (graph_of (starts links) (ends links) (jobs u))
 
-module _ (u : Tasks) (links rows : List (List ℕ)) (x : ℕ) (s : Solved u links rows x) (a b : List ℤ) where
-  pub worked_cycle : x < length rows → Worked u links rows (record { cycle = x; tight = length rows }) a b a b
-  worked_cycle l =
-      record { solved = s; none = λ m. (s.sized, refl, refl); some = λ m. absurd (omega (arith, s.sized)) }
+pub record Worked (u : Tasks) (links rows : List (List ℕ)) (r : Option Trouble) (a b a' b' : List ℤ) : Type 0 where
+  pub cyclic : lowest_job u links < jobs u → (r ≡ Some (trouble.Cycle (job_at u (lowest_job u links)))) × (a' ≡ a) × (b' ≡ b)
+  pub free : jobs u ≤ lowest_job u links
+      → (r ≡ tight_by u (length rows) (least (over rows) (length rows))) × Put rows a b a' b' × TimesIn u links rows
 
-  module _ (free : length rows ≤ x) where
+module _ (u : Tasks) (h : ℕ) (links : List (List ℕ)) (next : List ℕ) (rows₀ rows : List (List ℕ)) (q : SolveAsked u h links next rows₀) where
+  asked : (x : ℕ) → x ≤ jobs u → JobAsked u h x
+  asked x l =
+      let f = q.rounds.own.fit in
+      record { few = f.few; some = f.some; ticks = f.ticks; low = omega (arith, f.few_jobs) }
+
+  abbrev g : Graph
+  g = graph_of (starts links) (ends links) (jobs u)
+
+  -- x is the lowest on a cycle
+  module _ (x : ℕ) (s : Solved u links rows (Some x)) where
+    is : (x ≡ least (loops g) (jobs u)) × (x < jobs u) × (loops g x ≡ true)
+    is = some_least (loops g) (jobs u) x s.answer
+
+    pub cycle_asked : JobAsked u h x
+    cycle_asked = asked x (omega (arith, is.1))
+
+    pub worked_cycle : {j : Job} → j ≡ job_at u x → (a b : List ℤ) → Worked u links rows (Some (trouble.Cycle j)) a b a b
+    unfolding lowest
+    worked_cycle e a b =
+        record {
+          cyclic = λ m. (ap (λ (z : Job). Some (trouble.Cycle z)) (e ∙ ap (job_at u) is.0), refl, refl);
+          free = λ m. absurd (omega (arith, is.0, is.1));
+        }
+
+  -- none is
+  module _ (s : Solved u links rows None) where
+    free_of : jobs u ≤ lowest g
+    unfolding lowest
+    free_of = omega (arith, (none_least (loops g) (jobs u) s.answer).0)
+
     pub solved_low : LowRows rows
-    solved_low = low_rows u links rows (s.times (omega (arith, s.sized)))
+    solved_low = low_rows u links rows (s.times refl)
 
-    pub worked : {y : ℕ} → y ≡ least (over rows) (length rows) → (a' b' : List ℤ) → Put rows a b a' b'
-        → Worked u links rows (record { cycle = x; tight = y }) a b a' b'
-    worked e a' b' p = record { solved = s; none = λ m. absurd (omega (arith, s.sized)); some = λ m. (e, p) }
+    module _ (a b a' b' : List ℤ) (p : Put rows a b a' b') where
+      worked : {r : Option Trouble} → r ≡ tight_by u (length rows) (least (over rows) (length rows)) → Worked u links rows r a b a' b'
+      worked e =
+          record { cyclic = λ m. absurd (omega (arith, free_of)); free = λ m. (e, p, s.times refl) }
+
+      pub worked_none : None ≡ least.lowest (over rows) (length rows) → Worked u links rows None a b a' b'
+      worked_none e = worked (rw (none_least (over rows) (length rows) e).1)
+
+      module _ (y : ℕ) (e : Some y ≡ least.lowest (over rows) (length rows)) where
+        found : (y ≡ least (over rows) (length rows)) × (y < length rows) × (over rows y ≡ true)
+        found = some_least (over rows) (length rows) y e
+
+        pub tight_asked : JobAsked u h y
+        tight_asked = asked y (omega (arith, found.1, s.sized))
+
+        pub worked_tight : {j : Job} → j ≡ job_at u y → Worked u links rows (Some (trouble.Tight j)) a b a' b'
+        worked_tight ej = worked (rw (ej, ← found.0, lt-ltb _ _ found.1))

@@ -158,9 +158,9 @@ module _ (e : ℕ) (s : Stride) (a b : ℕ) (v v' : List (List ℕ)) (x y n c : 
 -- the rows are those of the pair's links within the block
 pub steps_end : (e : ℕ) (s : Stride) (a b : ℕ) (v v' : List (List ℕ)) {x y n c : ℕ} → c ≡ turns_of s b
     → StepsMade e c (s.from + a) (s.to + b) s.along s.across v v' x y n → c ≤ n
-    → (e + n ≡ e + turns_of s b) × Placed e (turns_of s b) (step_row s a b) v v'
+    → (e + c ≡ e + turns_of s b) × Placed e (turns_of s b) (step_row s a b) v v'
 steps_end e s a b v v' ec p l =
-    (omega (arith, p.within), rw (← ec) (place_end e _ _ (step_row s a b) v v' p.done p.within l))
+    (omega (arith, ec), rw (← ec) (place_end e _ _ (step_row s a b) v v' p.done p.within l))
 
 -- the links of pair q, of which the numbers stand at start + q
 unfoldable pub pair_made : List ℕ → ℕ → Stride → ℕ → List Link

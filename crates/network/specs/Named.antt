@@ -76,11 +76,11 @@ module _ (u : Tasks) (h x y i k : ℕ) (a : JobAsked u h x) (p : Naming u x y i)
         behind = let g : suc i ≡ i + 1 = omega arith in omega (arith, p.behind, many, before_suc u i, ap (jobs_before u) g);
       }
 
-pub name_end : (u : Tasks) (x y i : ℕ) → Naming u x y i → u.count ≤ i → record { task = i; job = y } ≡ job_at u x
+pub name_end : (u : Tasks) (x y i : ℕ) → Naming u x y i → u.count ≤ i → record { task = u.count; job = y } ≡ job_at u x
 unfolding task_of_job job_of_job
 name_end u x y i p l =
     let q : i ≡ least (λ j. ltb x (jobs_before u (suc j))) u.count = miss (λ j. ltb x (jobs_before u (suc j))) u.count i p.seeking l in
-    ap₂ (λ (b c : ℕ). record { task = b; job = c }) q (omega (arith, p.behind, ap (jobs_before u) q))
+    ap₂ (λ (b c : ℕ). record { task = b; job = c }) (omega (arith, q, p.seeking.within)) (omega (arith, p.behind, ap (jobs_before u) q))
 
 -- ---- the load
 abbrev pub share : ℕ → Tasks → ℕ → ℕ

@@ -1,5 +1,5 @@
 -- What is found of a set in lent tables, from what the functions told.
-use Rattle.std.specs.Prelude.{◌≡◌, refl, Bool, true, false, List, [], ◌⊎◌, ltb, ℤ, pos, length, take}
+use Rattle.std.specs.Prelude.{◌≡◌, refl, false, List, [], ◌⊎◌, Option, Some, None, ℤ, pos, length, take}
 use Rattle.std.proofs.Math.Path.{sym, ap, ap₂}
 use Rattle.std.proofs.Common.{◌∙◌, inl, inr, lt-ltb, le-ltb, le-leb, arith}
 use Prim.Native.Nat.{ℕ, ◌+◌, ◌*◌, ◌≤◌, ◌<◌}
@@ -10,7 +10,7 @@ use Rattle.kinds.specs.Sound.{sound}
 use Rattle.std.proofs.Math.IntN.{sub_ℕ}
 use Rattle.std.specs.Int.Signed.{lt_z}
 use Rattle.vocabulary.specs.Least.{least}
-use Rattle.vocabulary.proofs.Least.{least_is, least_same}
+use Rattle.vocabulary.proofs.Least.{least_same}
 use Rattle.vocabulary.proofs.Prefix.{taken}
 use Rattle.vocabulary.specs.Table.{table}
 use Rattle.vocabulary.specs.Total.{total}
@@ -27,21 +27,20 @@ use Rattle.kinds.specs.Tasks.{Tasks, Set, tasks_of, view}
 use Rattle.kinds.specs.Cycle.{jobs}
 use Rattle.kinds.specs.Links.{links}
 use Rattle.kinds.proofs.SoundFacts.{Sound}
-use Rattle.network.specs.declared.Job.{Job}
-use Rattle.network.specs.declared.Lowest.{Lowest}
+use Rattle.network.specs.declared.Trouble.{Trouble}
 use Rattle.network.specs.declared.Found.{Found}
 use Rattle.network.specs.Network.{network}
 use Rattle.network.specs.NetworkLaws.{jobs_of_network}
 use Rattle.network.specs.Times.{own_release, own_due, own_running, release_by, adjusted_release, adjusted_deadline}
 use Rattle.network.specs.Causes.{on_cycle, tight_by, tight, lowest_cycle, lowest_tight, releases_of, deadlines_of}
-use Rattle.network.specs.FoundOf.{lowest_over, found_by, none_found, found_of, times_fit, releases_put, deadlines_put, SolvedFor}
+use Rattle.network.specs.FoundOf.{tight_by as tight_in, trouble_of, found_of, times_fit, releases_put, deadlines_put, SolvedFor}
 use Rattle.heads.specs.Tables.{PatternTables}
 use Rattle.reader.specs.Files.{taken_of, not_taken}
 use Rattle.reader.proofs.ReadLaws.{WholeHead, none_sound}
 use Rattle.network.specs.Tables.{table_tasks, table_patterns, table_set, Numbered, numbered_sound}
 use Rattle.network.specs.LinkLists.{Wired, ExpandAsked, wired_network, wired_between}
-use Rattle.network.specs.JobTimes.{top, tasks_fit, SolveAsked, TimesIn, over, signed_release, signed_due, sizes_fit, Worked, table_same}
-use Rattle.network.specs.Named.{job_at, JobAsked, LoadAsked, load_asked, share, load_is, room_is, room_low, BoundAsked, bound}
+use Rattle.network.specs.JobTimes.{top, tasks_fit, SolveAsked, TimesIn, over, signed_release, signed_due, sizes_fit, lowest_job, Worked, table_same}
+use Rattle.network.specs.Named.{LoadAsked, load_asked, share, load_is, room_is, room_low, BoundAsked, bound}
 use Rattle.network.specs.Named.{bound_asked, links_bound}
 
 -- ---- the times of the set's own network
@@ -86,9 +85,8 @@ module _ (s : Set) (f : Sound s) (e : ℕ) (v rows : List (List ℕ)) (w : Wired
         ∙ table_same (signed_due rows) (adjusted_deadline u s.patterns) (jobs u) (λ x l. ap (sub_ℕ top) (sym (column_at 2 rows x)) ∙ deadline_is x l)
 
 -- ---- the lowest jobs of a set, and what is written
-pub record LowestIn (s : Set) (r : Lowest) (a b a' b' : List ℤ) : Type 0 where
-  pub cycle : r.cycle ≡ lowest_cycle s
-  pub tight : r.tight ≡ lowest_over s
+pub record TroubleIn (s : Set) (r : Option Trouble) (a b a' b' : List ℤ) : Type 0 where
+  pub trouble : r ≡ trouble_of s
   pub releases : a' ≡ releases_put s a b
   pub deadlines : b' ≡ deadlines_put s a b
 
@@ -100,42 +98,6 @@ pub record FitsTables (f : Counts) (xs hs ps : List ℕ) (most size : ℕ) : Typ
 
 pub expand_asked : (f : Counts) (xs hs ps : List ℕ) (most size : ℕ) → FitsTables f xs hs ps most size → (n : ℕ) → n ≡ size → ExpandAsked f xs hs ps n
 expand_asked f xs hs ps most size w n e = record { numbers = w.numbers; room = omega (arith, w.links) }
-
--- ---- what is named
-pub record NameAsked (f : Counts) (u : Tasks) (p : Lowest) : Type 0 where
-  pub job : (x : ℕ) → x ≤ 2048 → JobAsked u f.ticks x
-  pub load : LoadAsked f.ticks u
-  pub room : f.processors * f.ticks ≤ 48000
-  pub cycle : p.cycle ≤ 2048
-  pub tight : p.tight ≤ 2048
-
-abbrev pub named : Counts → Tasks → Lowest → Found
-named f u p = found_by u f.jobs p.cycle p.tight (total (share f.ticks u) u.count) (f.processors * f.ticks)
-
--- the job to name
-abbrev pub first : Lowest → ℕ → ℕ
-first p n = pick (ltb p.cycle n) p.cycle p.tight
-
-pub first_low : (f : Counts) (u : Tasks) (p : Lowest) → NameAsked f u p → (n : ℕ) {x : ℕ} → x ≡ first p n → x ≤ 2048
-first_low f u p a n {x} e = go (ltb p.cycle n) e
-  where
-    go : (b : Bool) → x ≡ pick b p.cycle p.tight → x ≤ 2048
-    go true e = omega (arith, e, a.cycle)
-    go false e = omega (arith, e, a.tight)
-
-pub name_is : (f : Counts) (u : Tasks) (p : Lowest) {n x load : ℕ} {j : Job} → n ≡ f.jobs → x ≡ first p n → j ≡ job_at u x
-    → load ≡ total (share f.ticks u) u.count
-    → record {
-      jobs = n;
-      cycle = ltb p.cycle n;
-      tight = ltb p.tight n;
-      task = j.task;
-      job = j.job;
-      load = load;
-      room = f.processors * f.ticks;
-    }
-    ≡ named f u p
-name_is f u p en ex ej el = rw (ej, ex, en, el)
 
 module _ (f : Counts) (xs hs ps : List ℕ) (n : Numbered f xs hs ps) where
   abbrev s : Set
@@ -160,29 +122,32 @@ module _ (f : Counts) (xs hs ps : List ℕ) (n : Numbered f xs hs ps) where
           few_links = omega (arith, taken e (length v) v refl w.fits, wired_few);
         }
 
-    pub lowest_in_lem : (rows : List (List ℕ)) (r : Lowest) (a b a' b' : List ℤ) → Worked (table_tasks f xs) (take e v) rows r a b a' b'
-        → LowestIn (table_set f xs hs ps) r a b a' b'
-    unfolding releases_put deadlines_put times_fit
-    lowest_in_lem rows r a b a' b' p = go (lt_or_le r.cycle (jobs (table_tasks f xs)))
+    pub trouble_in : (rows : List (List ℕ)) (r : Option Trouble) (a b a' b' : List ℤ) → Worked (table_tasks f xs) (take e v) rows r a b a' b'
+        → TroubleIn (table_set f xs hs ps) r a b a' b'
+    unfolding releases_put deadlines_put times_fit trouble_of
+    trouble_in rows r a b a' b' p = go (lt_or_le (lowest_job (table_tasks f xs) (take e v)) (jobs (table_tasks f xs)))
       where
-        same : r.cycle ≡ lowest_cycle s
-        same = lowest_is s sound_set e v rows w p.solved.answer
+        same : lowest_job (table_tasks f xs) (take e v) ≡ lowest_cycle s
+        same = lowest_is s sound_set e v rows w refl
 
-        go : (r.cycle < jobs (table_tasks f xs)) ⊎ (jobs (table_tasks f xs) ≤ r.cycle) → LowestIn (table_set f xs hs ps) r a b a' b'
+        go : (lowest_job (table_tasks f xs) (take e v) < jobs (table_tasks f xs)) ⊎ (jobs (table_tasks f xs) ≤ lowest_job (table_tasks f xs) (take e v))
+            → TroubleIn (table_set f xs hs ps) r a b a' b'
         go (inl l) =
-            let z = p.none l in
+            let z = p.cyclic l in
             let q = lt-ltb (lowest_cycle s) (jobs (table_tasks f xs)) (omega (arith, same)) in
             let h = lt-leb (jobs (table_tasks f xs)) (lowest_cycle s) (omega (arith, same)) in
-            record { cycle = same; tight = z.0 ∙ rw q; releases = z.1 ∙ rw (n.is_sound, h); deadlines = z.2 ∙ rw (n.is_sound, h) }
+            record { trouble = z.0 ∙ rw (q, same); releases = z.1 ∙ rw (n.is_sound, h); deadlines = z.2 ∙ rw (n.is_sound, h) }
         go (inr l) =
-            let z = p.some l in
-            let t = p.solved.times l in
+            let z = p.free l in
+            let t = z.2 in
             let q = le-ltb (lowest_cycle s) (jobs (table_tasks f xs)) (omega (arith, same)) in
             let h = le-leb (jobs (table_tasks f xs)) (lowest_cycle s) (omega (arith, same)) in
             let by : ℕ → List ℤ → List ℤ → List ℤ = λ m x y. pick (sizes_fit m (length a) (length b)) x y in
             record {
-              cycle = same;
-              tight = z.0 ∙ tight_is s sound_set e v rows w t ∙ rw q;
+              trouble =
+                  z.0
+                  ∙ ap₂ (tight_in (table_tasks f xs)) t.sized (tight_is s sound_set e v rows w t)
+                  ∙ rw q;
               releases =
                   z.1.releases
                   ∙ ap₂ (λ (m : ℕ) (x : List ℤ). by m x a) t.sized (releases_are s sound_set e v rows w t)
@@ -205,49 +170,37 @@ module _ (f : Counts) (xs hs ps : List ℕ) (n : Numbered f xs hs ps) where
   fits_large = record { numbers = n; jobs = omega (arith, n.jobs, sound_set.few_jobs); links = sound_set.few_links }
 
   -- ---- the answers
-  module _ (r : Lowest) (a b a' b' : List ℤ) (p : LowestIn (table_set f xs hs ps) r a b a' b') where
-    over_low : lowest_over s ≤ jobs (table_tasks f xs)
-    over_low = go (ltb (lowest_cycle s) (jobs (table_tasks f xs)))
-      where
-        go : (b : Bool) → pick b (jobs (table_tasks f xs)) (lowest_tight s) ≤ jobs (table_tasks f xs)
-        go true = omega arith
-        go false = (least_is (tight s.tasks s.patterns) (jobs s.tasks)).within
+  pub load_needs : LoadAsked f.ticks (table_tasks f xs)
+  load_needs = load_asked s sound_set f.ticks n.ticks
 
-    pub name_asked : NameAsked f (table_tasks f xs) r
-    name_asked =
-        record {
-          job = λ x l. record { few = sound_set.few_tasks; some = sound_set.some_period; ticks = n.ticks; low = l };
-          load = load_asked s sound_set f.ticks n.ticks;
-          room = room_low s sound_set f.ticks n.ticks;
-          cycle = omega (arith, p.cycle, (least_is (on_cycle s.tasks s.patterns) (jobs s.tasks)).within, sound_set.few_jobs);
-          tight = omega (arith, p.tight, over_low, sound_set.few_jobs);
-        }
+  pub room_fits : f.processors * f.ticks ≤ 48000
+  room_fits = room_low s sound_set f.ticks n.ticks
 
-    pub solved_for : {q : Found} → q ≡ named f (table_tasks f xs) r → SolvedFor (table_set f xs hs ps) a b q a' b'
-    unfolding found_of
-    solved_for e =
-        record {
-          found =
-              e
-              ∙ rw (n.is_sound, n.jobs, p.cycle, p.tight, load_is s sound_set f.ticks n.ticks, room_is s sound_set f.ticks n.ticks);
-          releases = p.releases;
-          deadlines = p.deadlines;
-        }
+  pub solved_for : {m l : ℕ} {r : Option Trouble} {a b a' b' : List ℤ} → TroubleIn (table_set f xs hs ps) r a b a' b' → m ≡ f.jobs
+      → l ≡ total (share f.ticks (table_tasks f xs)) f.tasks
+      → SolvedFor (table_set f xs hs ps) a b (Some (record { jobs = m; trouble = r; load = l; room = f.processors * f.ticks })) a' b'
+  unfolding found_of
+  solved_for p em el =
+      record {
+        found = rw (n.is_sound, em, n.jobs, p.trouble, el, load_is s sound_set f.ticks n.ticks, room_is s sound_set f.ticks n.ticks);
+        releases = p.releases;
+        deadlines = p.deadlines;
+      }
 
 -- a set that breaks rule 10
-pub unsolved : (s : Set) (a b : List ℤ) {r : Found} → r ≡ none_found → sound s ≡ false → SolvedFor s a b r a b
+pub unsolved : (s : Set) (a b : List ℤ) → sound s ≡ false → SolvedFor s a b None a b
 unfolding found_of releases_put deadlines_put times_fit
-unsolved s a b z e = record { found = z ∙ rw e; releases = rw e; deadlines = rw e }
+unsolved s a b e = record { found = rw e; releases = rw e; deadlines = rw e }
 
 -- of the same set
-pub solved_as : (s t : Set) (a b : List ℤ) {r : Found} {a' b' : List ℤ} → s ≡ t → SolvedFor s a b r a' b' → SolvedFor t a b r a' b'
+pub solved_as : (s t : Set) (a b : List ℤ) {r : Option Found} {a' b' : List ℤ} → s ≡ t → SolvedFor s a b r a' b' → SolvedFor t a b r a' b'
 solved_as s t a b e h = rw e at h
 
 -- ---- tasks as a file's head
-module _ (tasks : List ℕ) (a b : List ℤ) {r : Found} where
-  pub unsolved_head : taken_of tasks ≡ not_taken → r ≡ none_found → SolvedFor (view (taken_of tasks).set) a b r a b
-  unsolved_head e z = rw e (unsolved (view not_taken.set) a b z none_sound)
+module _ (tasks : List ℕ) (a b : List ℤ) where
+  pub unsolved_head : taken_of tasks ≡ not_taken → SolvedFor (view (taken_of tasks).set) a b None a b
+  unsolved_head e = rw e (unsolved (view not_taken.set) a b none_sound)
 
-  pub solved_head : (f : Counts) (t : List ℕ) (v : PatternTables) {a' b' : List ℤ} → WholeHead tasks f t v
+  pub solved_head : (f : Counts) (t : List ℕ) (v : PatternTables) {r : Option Found} {a' b' : List ℤ} → WholeHead tasks f t v
       → SolvedFor (table_set f t v.headings v.pairs) a b r a' b' → SolvedFor (view (taken_of tasks).set) a b r a' b'
   solved_head f t v w h = rw w.taken h

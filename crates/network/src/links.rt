@@ -18,14 +18,12 @@ fn put_steps(links: &mut [[u16; 2]], e: usize, s: Stride, a: u32, b: u32) -> usi
     let dy = s.across;
     let mut x = s.from + a;
     let mut y = s.to + b;
-    let mut n: usize = 0;
-    while n < c {
+    for n in 0..c {
         links[e + n] = [x as u16, y as u16];
         x += dx;
         y += dy;
-        n += 1;
     }
-    e + n
+    e + c
 }
 
 // The links of m pairs, one pair after another, from place e on; where they end.
@@ -41,11 +39,9 @@ fn put_pairs(
     ensures { Appended (join (pair_made pairs.now start s) m) e result links.old links.new }
 {
     let mut at = e;
-    let mut q: usize = 0;
-    while q < m {
+    for q in 0..m {
         let p = kinds::pair_at(pairs, start + q);
         at = put_steps(links, at, s, p.first, p.second);
-        q += 1;
     }
     at
 }
@@ -58,12 +54,10 @@ fn fill_bases(f: Counts, attributes: &Attributes, base: &mut [u32; 64])
     let n = f.tasks;
     let h = f.ticks;
     let mut b: u32 = 0;
-    let mut i: usize = 0;
-    while i < n {
+    for i in 0..n {
         base[i] = b;
         let t = kinds::task_at(attributes, i);
         b += h / t.period;
-        i += 1;
     }
 }
 
@@ -104,14 +98,12 @@ fn put_patterns(
     let h = f.ticks;
     let mut e: usize = 0;
     let mut used: usize = 0;
-    let mut k: usize = 0;
-    while k < n {
+    for k in 0..n {
         let p = kinds::pattern_at(headings, k);
         let s = stride_of(h, attributes, base, p);
         let m = wide(p.pairs);
         e = put_pairs(pairs, used, m, s, e, links);
         used += m;
-        k += 1;
     }
     e
 }

@@ -71,14 +71,12 @@ fn sweep_links(links: &[[u16; 2]], jobs: &mut [[u32; 3]], back: bool) -> bool
     ensures { Sweeps back links.now jobs.old jobs.new (length links.now) result }
 {
     let mut changed = false;
-    let mut k: usize = 0;
-    while k < links.len() {
+    for k in 0..links.len() {
         let i = turned(back, links.len(), k);
         let l = links[i];
         if hop(jobs, place(l[0]), place(l[1])) {
             changed = true;
         }
-        k += 1;
     }
     changed
 }
@@ -90,12 +88,10 @@ pub(crate) fn settle(links: &[[u16; 2]], jobs: &mut [[u32; 3]], most: usize) -> 
     ensures { (result ≡ true → Rounds links.now jobs.old jobs.new (length jobs.old))
         × (result ≡ false → Rounds links.now jobs.old jobs.new most) }
 {
-    let mut k: usize = 0;
-    while k < most {
+    for k in 0..most {
         if !sweep_links(links, jobs, k % 2 == 0) {
             return true;
         }
-        k += 1;
     }
     false
 }
@@ -105,15 +101,13 @@ pub(crate) fn falls(links: &[[u16; 2]], jobs: &[[u32; 3]]) -> bool
     requires { Between (starts links.now) (ends links.now) (length jobs.now) }
     ensures { result ≡ true → Falling (starts links.now) (ends links.now) (aheads jobs.now) (length (starts links.now)) }
 {
-    let mut k: usize = 0;
-    while k < links.len() {
+    for k in 0..links.len() {
         let l = links[k];
         let p = jobs[place(l[0])];
         let q = jobs[place(l[1])];
         if p[2] <= q[2] {
             return false;
         }
-        k += 1;
     }
     true
 }

@@ -16,8 +16,7 @@ pub(crate) fn job_at(f: Counts, attributes: &Attributes, x: usize) -> Job
     let n = f.tasks;
     let h = f.ticks;
     let mut y = x;
-    let mut i: usize = 0;
-    while i < n {
+    for i in 0..n {
         let t = kinds::task_at(attributes, i);
         let k = wide(h / t.period);
         if y < k {
@@ -27,10 +26,9 @@ pub(crate) fn job_at(f: Counts, attributes: &Attributes, x: usize) -> Job
             };
         }
         y -= k;
-        i += 1;
     }
     Job {
-        task: i as u32,
+        task: n as u32,
         job: y as u32,
     }
 }
@@ -43,11 +41,9 @@ pub(crate) fn load_of(f: Counts, attributes: &Attributes) -> u32
     let n = f.tasks;
     let h = f.ticks;
     let mut sum: u32 = 0;
-    let mut i: usize = 0;
-    while i < n {
+    for i in 0..n {
         let t = kinds::task_at(attributes, i);
         sum += t.running * (h / t.period);
-        i += 1;
     }
     sum
 }
@@ -60,12 +56,10 @@ pub(crate) fn most_links(f: Counts, attributes: &Attributes, headings: &Headings
     let n = f.patterns;
     let h = f.ticks;
     let mut sum: usize = 0;
-    let mut k: usize = 0;
-    while k < n {
+    for k in 0..n {
         let p = kinds::pattern_at(headings, k);
         let t = kinds::task_at(attributes, wide(p.from));
         sum += wide(p.pairs) * wide(h / t.period);
-        k += 1;
     }
     sum
 }

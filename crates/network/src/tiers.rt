@@ -1,8 +1,8 @@
 // Tables for a small and for the largest set, so that a small one pays for its own size.
 ghost use Rattle.network.specs.Tables.{table_set, Numbered};
-ghost use Rattle.network.specs.Outcome.{FitsTables, LowestIn};
+ghost use Rattle.network.specs.Outcome.{FitsTables, TroubleIn};
 
-use crate::Lowest;
+use crate::Trouble;
 use crate::links::expand;
 use crate::sums::most_links;
 use crate::times::solve_in;
@@ -15,9 +15,9 @@ fn solve_small(
     pairs: &Pairs,
     releases: &mut [i32],
     deadlines: &mut [i32],
-) -> Lowest
+) -> Option<Trouble>
     requires { FitsTables f attributes.now headings.now pairs.now 256 512 }
-    ensures { LowestIn (table_set f attributes.now headings.now pairs.now) result
+    ensures { TroubleIn (table_set f attributes.now headings.now pairs.now) result
         releases.old deadlines.old releases.new deadlines.new }
 {
     let n = wide(f.jobs);
@@ -43,9 +43,9 @@ fn solve_large(
     pairs: &Pairs,
     releases: &mut [i32],
     deadlines: &mut [i32],
-) -> Lowest
+) -> Option<Trouble>
     requires { FitsTables f attributes.now headings.now pairs.now 2048 4096 }
-    ensures { LowestIn (table_set f attributes.now headings.now pairs.now) result
+    ensures { TroubleIn (table_set f attributes.now headings.now pairs.now) result
         releases.old deadlines.old releases.new deadlines.new }
 {
     let n = wide(f.jobs);
@@ -72,9 +72,9 @@ pub(crate) fn solve_sized(
     pairs: &Pairs,
     releases: &mut [i32],
     deadlines: &mut [i32],
-) -> Lowest
+) -> Option<Trouble>
     requires { Numbered f attributes.now headings.now pairs.now }
-    ensures { LowestIn (table_set f attributes.now headings.now pairs.now) result
+    ensures { TroubleIn (table_set f attributes.now headings.now pairs.now) result
         releases.old deadlines.old releases.new deadlines.new }
 {
     let n = wide(f.jobs);

@@ -2,7 +2,7 @@
 // own deadline passes, so that rounds of unsigned numbers serve for both times.
 ghost use Rattle.std.specs.Prelude.{◌≡◌, false, ◌≤◌, pos, length};
 ghost use Rattle.std.proofs.Math.IntN.{sub_ℕ};
-ghost use Rattle.vocabulary.specs.Least.{least};
+ghost use Rattle.vocabulary.specs.Least.{lowest};
 ghost use Rattle.vocabulary.specs.Table.{table};
 ghost use Rattle.graph.specs.Pass.{limit};
 ghost use Rattle.kinds.specs.Cycle.{jobs};
@@ -10,8 +10,9 @@ ghost use Rattle.network.specs.Tables.{table_tasks};
 ghost use Rattle.network.specs.Placed.{Placed};
 ghost use Rattle.network.specs.JobTimes.{top, signed_release, signed_due, job_row, JobsAsked, OwnAsked, OwnRows, RoundsAsked, Adjusts, Quick, SolveAsked, Solved, over, LowRows, WriteAsked, Put, Worked};
 
-use crate::Lowest;
+use crate::Trouble;
 use crate::settle::{falls, settle};
+use crate::sums::job_at;
 use kinds::{Attributes, Counts, Task, wide};
 use loops::lowest_on_cycle;
 
@@ -24,11 +25,9 @@ fn put_jobs(jobs: &mut [[u32; 3]], b: usize, k: usize, t: Task)
     let d = t.period;
     let z = 12000 - t.deadline;
     let mut r = t.offset;
-    let mut n: usize = 0;
-    while n < k {
+    for n in 0..k {
         jobs[b + n] = [c, r, z - r];
         r += d;
-        n += 1;
     }
 }
 
@@ -40,13 +39,11 @@ fn own_times(f: Counts, attributes: &Attributes, jobs: &mut [[u32; 3]])
     let n = f.tasks;
     let h = f.ticks;
     let mut b: usize = 0;
-    let mut i: usize = 0;
-    while i < n {
+    for i in 0..n {
         let t = kinds::task_at(attributes, i);
         let k = wide(h / t.period);
         put_jobs(jobs, b, k, t);
         b += k;
-        i += 1;
     }
 }
 
@@ -81,42 +78,40 @@ fn adjust_soon(
     falls(links, jobs)
 }
 
-// The lowest job that lies on a cycle; where none does, the number of jobs, and adjusted times.
+// The lowest job that lies on a cycle; where none does, adjusted times.
 fn solve(
     f: Counts,
     attributes: &Attributes,
     links: &[[u16; 2]],
     next: &mut [u16],
     jobs: &mut [[u32; 3]],
-) -> usize
+) -> Option<usize>
     requires { SolveAsked (table_tasks f attributes.now) f.ticks links.now next.old jobs.old }
     ensures { Solved (table_tasks f attributes.now) links.now jobs.new result }
 {
     if adjust_soon(f, attributes, links, jobs) {
-        return jobs.len();
+        return None;
     }
     if let Some(x) = lowest_on_cycle(links, next, jobs) {
-        return x;
+        return Some(x);
     }
     let n = jobs.len();
     adjust_rows(f, attributes, links, jobs, n);
-    n
+    None
 }
 
-// The lowest job whose adjusted release and running time pass its adjusted deadline, the number of jobs where there is none.
-fn first_over(jobs: &[[u32; 3]]) -> usize
+// The lowest job whose adjusted release and running time pass its adjusted deadline.
+fn first_over(jobs: &[[u32; 3]]) -> Option<usize>
     requires { LowRows jobs.now }
-    ensures { result ≡ least (over jobs.now) (length jobs.now) }
+    ensures { result ≡ lowest (over jobs.now) (length jobs.now) }
 {
-    let mut x: usize = 0;
-    while x < jobs.len() {
+    for x in 0..jobs.len() {
         let r = jobs[x];
         if 12000 < r[1] + r[0] + r[2] {
-            return x;
+            return Some(x);
         }
-        x += 1;
     }
-    x
+    None
 }
 
 // The time that lies x before tick 12,000, signed.
@@ -141,14 +136,12 @@ fn write_times(jobs: &[[u32; 3]], releases: &mut [i32], deadlines: &mut [i32])
     ensures { (releases.new ≡ table (signed_release jobs.now) (length jobs.now))
         × (deadlines.new ≡ table (signed_due jobs.now) (length jobs.now)) }
 {
-    let mut x: usize = 0;
-    while x < jobs.len() {
+    for x in 0..jobs.len() {
         let r = jobs[x];
         let a = plain(r[1]);
         releases[x] = a;
         let z = left_of(r[2]);
         deadlines[x] = z;
-        x += 1;
     }
 }
 
@@ -176,17 +169,17 @@ pub(crate) fn solve_in(
     jobs: &mut [[u32; 3]],
     releases: &mut [i32],
     deadlines: &mut [i32],
-) -> Lowest
+) -> Option<Trouble>
     requires { SolveAsked (table_tasks f attributes.now) f.ticks links.now next.old jobs.old }
     ensures { Worked (table_tasks f attributes.now) links.now jobs.new result
         releases.old deadlines.old releases.new deadlines.new }
 {
-    let x = solve(f, attributes, links, next, jobs);
-    let n = jobs.len();
-    if x < n {
-        return Lowest { cycle: x, tight: n };
+    if let Some(x) = solve(f, attributes, links, next, jobs) {
+        let j = job_at(f, attributes, x);
+        return Some(Trouble::Cycle(j));
     }
-    let y = first_over(jobs);
     put_times(jobs, releases, deadlines);
-    Lowest { cycle: x, tight: y }
+    let y = first_over(jobs)?;
+    let j = job_at(f, attributes, y);
+    Some(Trouble::Tight(j))
 }

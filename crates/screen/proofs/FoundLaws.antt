@@ -1,4 +1,5 @@
 -- The answers from what is found of a set.
+use Rattle.std.specs.Prelude.{Option, Some, None, Ok, Err}
 use mathlib.Core.Path.{◌≡◌, refl, sym, ap, ap₂, ◌∙◌}
 use mathlib.Core.Bool.{Bool, true, false, ◌&&◌, ◌||◌, not}
 use mathlib.Core.List.{List, [], ◌∷◌}
@@ -9,8 +10,9 @@ use borrow.Author.Tests.{lt-ltb, le-ltb, lt-leb, le-leb, ltb-true, ltb-false}
 use lib.Dec.{ltb, leb, eqb}
 use lib.IntN.{ℤ}
 use lib.ListN.{length}
+use Rattle.std.specs.Option.{option_or}
 use Rattle.vocabulary.specs.Test.{pick}
-use Rattle.vocabulary.proofs.Test.{lt_or_le}
+use Rattle.vocabulary.proofs.Test.{lt_or_le, took, missed}
 use Rattle.vocabulary.specs.First.{rule, first_of}
 use Rattle.kinds.specs.Tasks.{Tasks, Set, view}
 use Rattle.kinds.specs.Cycle.{jobs}
@@ -19,128 +21,160 @@ use Rattle.kinds.specs.Sound.{sound}
 use Rattle.reader.specs.declared.Taking.{Taking}
 use Rattle.reader.specs.Files.{taken_of, not_taken}
 use Rattle.reader.proofs.ReadLaws.{none_sound, not_taken_lem}
-use Rattle.kinds.proofs.SoundFacts.{Sound, sound_facts, some_jobs}
-use Rattle.laws.proofs.Order.{before_suc, before_up}
+use Rattle.network.specs.declared.Job.{Job}
+use Rattle.network.specs.declared.Trouble.TheVariants as trouble
 use Rattle.network.specs.declared.Found.{Found}
+use Rattle.network.specs.Named.{job_at}
 use Rattle.network.specs.Causes.{load, room, lowest_cycle, lowest_tight}
-use Rattle.network.specs.FoundOf.{lowest_over, found_by, none_found, found_of, times_fit, releases_put, deadlines_put, SolvedFor}
+use Rattle.network.specs.FoundOf.{tight_by, trouble_by, trouble_of, found_of, times_fit, releases_put, deadlines_put, SolvedFor}
 use Rattle.screen.specs.declared.Finding.{Finding}
 use Rattle.screen.specs.declared.Finding.TheVariants as finding
-use Rattle.screen.specs.declared.Adjusted.{Adjusted}
-use Rattle.screen.specs.declared.Adjusted.TheVariants as adjusted
+use Rattle.screen.specs.Answers.{Adjusted}
+use Rattle.screen.specs.declared.Unadjusted.TheVariants as unadjusted
 use Rattle.screen.specs.Answers.{written}
-use Rattle.screen.specs.Findings.{finding_of, adjust_rules, adjusted_of, releases_left, deadlines_left}
+use Rattle.screen.specs.Findings.{overload_of, finding_of, adjust_rules, adjusted_of, releases_left, deadlines_left}
 use Rattle.screen.specs.Heads.{screened_of, adjusted_head, releases_kept, deadlines_kept, AdjustedBy}
 use Rattle.screen.proofs.Order.{not_sound, on_cycle_lem, overloaded, too_tight, nothing_found}
 use Rattle.screen.specs.Written.{Answered}
 use Rattle.screen.proofs.Order.{unsound_set, wrong_releases, wrong_deadlines, with_cycle, without_cycle}
 
--- a sound set has a job
-some_job : (s : Set) → Sound s → 0 < jobs s.tasks
-unfolding jobs
-some_job s f = omega (arith, some_jobs s f 0 f.some_tasks, before_suc s.tasks 0, before_up s.tasks 1 s.tasks.count (omega (arith, f.some_tasks)))
-
-module _ (s : Set) (f : Found) (e : f ≡ found_of s) where
-  pub no_jobs : f.jobs ≡ 0 → sound s ≡ false
-  unfolding found_of
-  no_jobs z = go (sound s) refl e
+-- ---- what is wrong with a set of n jobs: x is the lowest on a cycle, and y the lowest that is too tight
+module _ (u : Tasks) (n x y : ℕ) where
+  -- of a job on a cycle, and of one that is too tight
+  cycle_told : (j : Job) → Some (trouble.Cycle j) ≡ trouble_by u n x y → (x < n) × (j ≡ job_at u x)
+  cycle_told j e = go (ltb x n) refl e
     where
-      go : (b : Bool) → sound s ≡ b → f ≡ pick b (found_by s.tasks (jobs s.tasks) (lowest_cycle s) (lowest_over s) (load s.tasks) (room s)) none_found
-          → sound s ≡ false
-      go true h g = absurd (omega (arith, z, ap (λ (r : Found). r.jobs) g, some_job s (sound_facts s h)))
-      go false h g = h
+      other : (b : Bool) → Some (trouble.Cycle j) ≡ pick b (Some (trouble.Tight (job_at u y))) None → ⊥
+      other true g = let z : ◌≡◌ {A = ℕ} 0 1 = cc g in omega arith
+      other false g = let z : ◌≡◌ {A = ℕ} 0 1 = cc g in omega arith
 
-  module _ (some : f.jobs ≡ 0 → ⊥) where
-    pub is_sound : sound s ≡ true
+      go : (b : Bool) → ltb x n ≡ b → Some (trouble.Cycle j) ≡ pick b (Some (trouble.Cycle (job_at u x))) (tight_by u n y) → (x < n) × (j ≡ job_at u x)
+      go true h g = (ltb-true x n h, cc g)
+      go false h g = absurd (other (ltb y n) g)
+
+  tight_told : (j : Job) → Some (trouble.Tight j) ≡ trouble_by u n x y → (n ≤ x) × (y < n) × (j ≡ job_at u y)
+  tight_told j e = go (ltb x n) refl e
+    where
+      last : n ≤ x → (b : Bool) → ltb y n ≡ b → Some (trouble.Tight j) ≡ pick b (Some (trouble.Tight (job_at u y))) None
+          → (n ≤ x) × (y < n) × (j ≡ job_at u y)
+      last l true h g = (l, ltb-true y n h, cc g)
+      last l false h g = absurd (let z : ◌≡◌ {A = ℕ} 0 1 = cc g in omega arith)
+
+      go : (b : Bool) → ltb x n ≡ b → Some (trouble.Tight j) ≡ pick b (Some (trouble.Cycle (job_at u x))) (tight_by u n y)
+          → (n ≤ x) × (y < n) × (j ≡ job_at u y)
+      go true h g = absurd (let z : ◌≡◌ {A = ℕ} 0 1 = cc g in omega arith)
+      go false h g = last (ltb-false x n h) (ltb y n) refl g
+
+  -- where nothing is
+  none_told : None ≡ trouble_by u n x y → (n ≤ x) × (n ≤ y)
+  none_told e = go (ltb x n) refl e
+    where
+      last : n ≤ x → (b : Bool) → ltb y n ≡ b → None ≡ pick b (Some (trouble.Tight (job_at u y))) None → (n ≤ x) × (n ≤ y)
+      last l true h g = absurd (let z : ◌≡◌ {A = ℕ} 0 1 = cc g in omega arith)
+      last l false h g = (l, ltb-false y n h)
+
+      go : (b : Bool) → ltb x n ≡ b → None ≡ pick b (Some (trouble.Cycle (job_at u x))) (tight_by u n y) → (n ≤ x) × (n ≤ y)
+      go true h g = absurd (let z : ◌≡◌ {A = ℕ} 0 1 = cc g in omega arith)
+      go false h g = last (ltb-false x n h) (ltb y n) refl g
+
+or_none : (p : Option Finding) → option_or p None ≡ p
+or_none None = refl
+or_none (Some f) = refl
+
+module _ (s : Set) where
+  abbrev whole : Found
+  whole = record { jobs = jobs s.tasks; trouble = trouble_of s; load = load s.tasks; room = room s }
+
+  pub unsound : None ≡ found_of s → sound s ≡ false
+  unfolding found_of
+  unsound e = (missed (sound s) (Some whole) None None (sym e) (λ g. let z : ◌≡◌ {A = ℕ} 0 1 = cc g in omega arith)).0
+
+  module _ (f : Found) (e : Some f ≡ found_of s) where
+    is : (sound s ≡ true) × (Some whole ≡ Some f)
     unfolding found_of
-    is_sound = go (sound s) refl e
-      where
-        go : (b : Bool) → sound s ≡ b → f ≡ pick b (found_by s.tasks (jobs s.tasks) (lowest_cycle s) (lowest_over s) (load s.tasks) (room s)) none_found
-            → sound s ≡ true
-        go true h g = h
-        go false h g = absurd (some (ap (λ (r : Found). r.jobs) g))
+    is = took (sound s) (Some whole) None (Some f) (sym e) (λ g. let z : ◌≡◌ {A = ℕ} 0 1 = cc g in omega arith)
 
-    found_is : f ≡ found_by s.tasks (jobs s.tasks) (lowest_cycle s) (lowest_over s) (load s.tasks) (room s)
-    unfolding found_of
-    found_is = e ∙ rw is_sound
+    found_is : f ≡ whole
+    found_is = let g = is.1 in cc g
 
-    pub count_is : f.jobs ≡ jobs s.tasks
+    count_is : f.jobs ≡ jobs s.tasks
     count_is = ap (λ (r : Found). r.jobs) found_is
 
-    module _ (c : f.cycle ≡ true) where
-      pub cyclic : lowest_cycle s < jobs s.tasks
-      cyclic = ltb-true (lowest_cycle s) (jobs s.tasks) (sym (ap (λ (r : Found). r.cycle) found_is) ∙ c)
+    load_is : f.load ≡ load s.tasks
+    load_is = ap (λ (r : Found). r.load) found_is
 
-      named : pick (ltb (lowest_cycle s) (jobs s.tasks)) (lowest_cycle s) (lowest_over s) ≡ lowest_cycle s
-      named = rw (lt-ltb (lowest_cycle s) (jobs s.tasks) cyclic)
+    room_is : f.room ≡ room s
+    room_is = ap (λ (r : Found). r.room) found_is
 
-      pub task_is : f.task ≡ task_of_job s.tasks (lowest_cycle s)
-      task_is = ap (λ (r : Found). r.task) found_is ∙ ap (task_of_job s.tasks) named
+    trouble_is : f.trouble ≡ trouble_by s.tasks (jobs s.tasks) (lowest_cycle s) (lowest_tight s)
+    unfolding trouble_of
+    trouble_is = ap (λ (r : Found). r.trouble) found_is
 
-      pub job_is : f.job ≡ job_of_job s.tasks (lowest_cycle s)
-      job_is = ap (λ (r : Found). r.job) found_is ∙ ap (job_of_job s.tasks) named
+    module _ (j : Job) (c : f.trouble ≡ Some (trouble.Cycle j)) where
+      on : (lowest_cycle s < jobs s.tasks) × (j ≡ job_at s.tasks (lowest_cycle s))
+      on = cycle_told s.tasks (jobs s.tasks) (lowest_cycle s) (lowest_tight s) j (sym c ∙ trouble_is)
 
-      pub found_cycle : finding.Cycle f.task f.job ≡ finding_of s
-      found_cycle = ap₂ (λ (i k : ℕ). finding.Cycle i k) task_is job_is ∙ sym (on_cycle_lem s is_sound cyclic)
+      pub found_cycle : Some (finding.Cycle j.task j.job) ≡ finding_of s
+      found_cycle = ap (λ (k : Job). Some (finding.Cycle k.task k.job)) on.1 ∙ sym (on_cycle_lem s is.0 on.0)
 
-    module _ (c : f.cycle ≡ false) where
-      pub free : jobs s.tasks ≤ lowest_cycle s
-      free = ltb-false (lowest_cycle s) (jobs s.tasks) (sym (ap (λ (r : Found). r.cycle) found_is) ∙ c)
+    -- no job lies on a cycle
+    tight_is : (j : Job) → f.trouble ≡ Some (trouble.Tight j)
+        → (jobs s.tasks ≤ lowest_cycle s) × (lowest_tight s < jobs s.tasks) × (j ≡ job_at s.tasks (lowest_tight s))
+    tight_is j t = tight_told s.tasks (jobs s.tasks) (lowest_cycle s) (lowest_tight s) j (sym t ∙ trouble_is)
 
-      over_is : lowest_over s ≡ lowest_tight s
-      over_is = rw (le-ltb (lowest_cycle s) (jobs s.tasks) free)
+    none_is : f.trouble ≡ None → (jobs s.tasks ≤ lowest_cycle s) × (jobs s.tasks ≤ lowest_tight s)
+    none_is t = none_told s.tasks (jobs s.tasks) (lowest_cycle s) (lowest_tight s) (sym t ∙ trouble_is)
 
-      load_is : f.load ≡ load s.tasks
-      load_is = ap (λ (r : Found). r.load) found_is
+    pub free_tight : (j : Job) → f.trouble ≡ Some (trouble.Tight j) → jobs s.tasks ≤ lowest_cycle s
+    free_tight j t = (tight_is j t).0
 
-      room_is : f.room ≡ room s
-      room_is = ap (λ (r : Found). r.room) found_is
+    pub free_none : f.trouble ≡ None → jobs s.tasks ≤ lowest_cycle s
+    free_none t = (none_is t).0
 
-      pub found_overload : f.room < f.load → finding.Overload f.load f.room ≡ finding_of s
-      found_overload l =
-          ap₂ (λ (a b : ℕ). finding.Overload a b) load_is room_is ∙ sym (overloaded s is_sound free (omega (arith, load_is, room_is)))
+    -- the load comes before what is left to find
+    after_load : {p : Option Finding} → jobs s.tasks ≤ lowest_cycle s → (load s.tasks ≤ room s → p ≡ finding_of s)
+        → option_or (overload_of f.load f.room) p ≡ finding_of s
+    after_load {p} free h = go (lt_or_le f.room f.load)
+      where
+        go : (f.room < f.load) ⊎ (f.load ≤ f.room) → option_or (overload_of f.load f.room) p ≡ finding_of s
+        go (inl l) =
+            rw (lt-ltb f.room f.load l)
+            (ap₂ (λ (a b : ℕ). Some (finding.Overload a b)) load_is room_is ∙ sym (overloaded s is.0 free (omega (arith, load_is, room_is))))
+        go (inr l) = rw (le-ltb f.room f.load l) (h (omega (arith, load_is, room_is)))
 
-      module _ (light : f.load ≤ f.room) where
-        fits : load s.tasks ≤ room s
-        fits = omega (arith, load_is, room_is)
+    pub found_tight : (j : Job) → f.trouble ≡ Some (trouble.Tight j)
+        → option_or (overload_of f.load f.room) (Some (finding.TooTight j.task j.job)) ≡ finding_of s
+    found_tight j t =
+        let w = tight_is j t in
+        after_load w.0 (λ fits. ap (λ (k : Job). Some (finding.TooTight k.task k.job)) w.2 ∙ sym (too_tight s is.0 w.0 fits w.1))
 
-        pub found_tight : f.tight ≡ true → finding.TooTight f.task f.job ≡ finding_of s
-        found_tight t =
-            let l = ltb-true (lowest_over s) (jobs s.tasks) (sym (ap (λ (r : Found). r.tight) found_is) ∙ t) in
-            let z : pick (ltb (lowest_cycle s) (jobs s.tasks)) (lowest_cycle s) (lowest_over s) ≡ lowest_tight s = rw (le-ltb (lowest_cycle s) (jobs s.tasks) free) in
-            ap₂ (λ (i k : ℕ). finding.TooTight i k)
-            (ap (λ (r : Found). r.task) found_is ∙ ap (task_of_job s.tasks) z)
-            (ap (λ (r : Found). r.job) found_is ∙ ap (job_of_job s.tasks) z)
-            ∙ sym (too_tight s is_sound free fits (omega (arith, over_is)))
-
-        pub found_nothing : f.tight ≡ false → finding.Nothing ≡ finding_of s
-        found_nothing t =
-            let l = ltb-false (lowest_over s) (jobs s.tasks) (sym (ap (λ (r : Found). r.tight) found_is) ∙ t) in
-            sym (nothing_found s is_sound free fits (omega (arith, over_is)))
+    pub found_nothing : f.trouble ≡ None → overload_of f.load f.room ≡ finding_of s
+    found_nothing t =
+        let w = none_is t in sym (or_none (overload_of f.load f.room)) ∙ after_load w.0 (λ fits. sym (nothing_found s is.0 w.0 fits w.1))
 
     -- ---- adjusted times, for buffers of p and q places
     module _ (p q : ℕ) where
-      pub other_first : (p ≡ f.jobs → ⊥) → adjusted.WrongLength ≡ adjusted_of s p q
-      other_first h = wrong_releases s p q is_sound (λ z. h (z ∙ sym count_is))
+      pub other_first : (p ≡ f.jobs → ⊥) → Err unadjusted.WrongLength ≡ adjusted_of s p q
+      other_first h = wrong_releases s p q is.0 (λ z. h (z ∙ sym count_is))
 
       module _ (ep : p ≡ f.jobs) where
-        pub other_second : (q ≡ f.jobs → ⊥) → adjusted.WrongLength ≡ adjusted_of s p q
-        other_second h = wrong_deadlines s p q is_sound (ep ∙ count_is) (λ z. h (z ∙ sym count_is))
+        pub other_second : (q ≡ f.jobs → ⊥) → Err unadjusted.WrongLength ≡ adjusted_of s p q
+        other_second h = wrong_deadlines s p q is.0 (ep ∙ count_is) (λ z. h (z ∙ sym count_is))
 
         module _ (eq : q ≡ f.jobs) where
-          pub refused_cycle : f.cycle ≡ true → adjusted.Cycle f.task f.job ≡ adjusted_of s p q
-          refused_cycle c =
-              ap₂ (λ (i k : ℕ). adjusted.Cycle i k) (task_is c) (job_is c)
-              ∙ with_cycle s p q is_sound (ep ∙ count_is) (eq ∙ count_is) (cyclic c)
+          pub refused_cycle : (j : Job) → f.trouble ≡ Some (trouble.Cycle j) → Err (unadjusted.Cycle j.task j.job) ≡ adjusted_of s p q
+          refused_cycle j c =
+              ap (λ (k : Job). Err (unadjusted.Cycle k.task k.job)) (on j c).1
+              ∙ with_cycle s p q is.0 (ep ∙ count_is) (eq ∙ count_is) (on j c).0
 
-          pub unrefused : f.cycle ≡ false → adjusted.Written ≡ adjusted_of s p q
-          unrefused c = without_cycle s p q is_sound (ep ∙ count_is) (eq ∙ count_is) (free c)
+          pub unrefused : jobs s.tasks ≤ lowest_cycle s → Ok tt ≡ adjusted_of s p q
+          unrefused free = without_cycle s p q is.0 (ep ∙ count_is) (eq ∙ count_is) free
 
 -- ==== the times are written exactly where the answer says so
 module _ (i k : ℕ) where
   chain : Bool → Bool → Bool → Bool → Adjusted
   chain a b d c =
-      first_of (rule 10 (not a) adjusted.BadSet ∷ rule 11 (not b || not d) adjusted.WrongLength ∷ rule 13 c (adjusted.Cycle i k) ∷ []) adjusted.Written
+      first_of (rule 10 (not a) (Err unadjusted.BadSet) ∷ rule 11 (not b || not d) (Err unadjusted.WrongLength) ∷ rule 13 c (Err (unadjusted.Cycle i k)) ∷ []) (Ok tt)
 
   chain_written : (a b d c : Bool) → (a && (not c && (b && d))) ≡ written (chain a b d c)
   unfolding chain first_of
@@ -168,7 +202,7 @@ written_fit s p q =
     ∙ chain_written (task_of_job u x) (job_of_job u x) (sound s) (eqb p (jobs u)) (eqb q (jobs u)) (ltb x (jobs u))
 
 -- the answer a, with the buffers as they are left
-pub answered : (s : Set) (r d : List ℤ) {f : Found} {r' d' : List ℤ} → SolvedFor s r d f r' d' → {a : Adjusted} → a ≡ adjusted_of s (length r) (length d)
+pub answered : (s : Set) (r d : List ℤ) {f : Option Found} {r' d' : List ℤ} → SolvedFor s r d f r' d' → {a : Adjusted} → a ≡ adjusted_of s (length r) (length d)
     → Answered s r d a r' d'
 unfolding releases_put deadlines_put releases_left deadlines_left
 answered s r d h e =
@@ -177,11 +211,11 @@ answered s r d h e =
 
 -- ---- tasks as a file's head
 module _ (tasks : List ℕ) where
-  pub screened : {r : Finding} → r ≡ finding_of (view (taken_of tasks).set) → r ≡ screened_of tasks
+  pub screened : {r : Option Finding} → r ≡ finding_of (view (taken_of tasks).set) → r ≡ screened_of tasks
   unfolding screened_of
   screened {r} e = go (taken_of tasks).fits refl
     where
-      go : (b : Bool) → (taken_of tasks).fits ≡ b → r ≡ pick b (finding_of (view (taken_of tasks).set)) finding.BadSet
+      go : (b : Bool) → (taken_of tasks).fits ≡ b → r ≡ pick b (finding_of (view (taken_of tasks).set)) (Some finding.BadSet)
       go true h = e
       go false h = e ∙ ap (λ (t : Taking). finding_of (view t.set)) (not_taken_lem tasks h) ∙ not_sound (view not_taken.set) none_sound
 
@@ -189,12 +223,12 @@ module _ (tasks : List ℕ) where
   unfolding adjusted_head
   adjusted_is p q = go (taken_of tasks).fits refl
     where
-      go : (b : Bool) → (taken_of tasks).fits ≡ b → adjusted_of (view (taken_of tasks).set) p q ≡ pick b (adjusted_of (view (taken_of tasks).set) p q) adjusted.BadSet
+      go : (b : Bool) → (taken_of tasks).fits ≡ b → adjusted_of (view (taken_of tasks).set) p q ≡ pick b (adjusted_of (view (taken_of tasks).set) p q) (Err unadjusted.BadSet)
       go true h = refl
       go false h = ap (λ (t : Taking). adjusted_of (view t.set) p q) (not_taken_lem tasks h) ∙ sym (unsound_set (view not_taken.set) p q none_sound)
 
   module _ (r d : List ℤ) where
-    none_left : adjusted_of (view not_taken.set) (length r) (length d) ≡ adjusted.BadSet
+    none_left : adjusted_of (view not_taken.set) (length r) (length d) ≡ Err unadjusted.BadSet
     none_left = sym (unsound_set (view not_taken.set) (length r) (length d) none_sound)
 
     releases_are : releases_left (view (taken_of tasks).set) r d ≡ releases_kept tasks r d
@@ -215,7 +249,7 @@ module _ (tasks : List ℕ) where
         go true h = refl
         go false h = rw (not_taken_lem tasks h, none_left)
 
-    pub answered_head : {f : Found} {r' d' : List ℤ} → SolvedFor (view (taken_of tasks).set) r d f r' d' → {a : Adjusted}
+    pub answered_head : {f : Option Found} {r' d' : List ℤ} → SolvedFor (view (taken_of tasks).set) r d f r' d' → {a : Adjusted}
         → a ≡ adjusted_of (view (taken_of tasks).set) (length r) (length d) → AdjustedBy (λ b. b) tasks r d a r' d'
     answered_head h e =
         let w = answered (view (taken_of tasks).set) r d h e in

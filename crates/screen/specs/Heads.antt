@@ -1,21 +1,21 @@
 -- The screen and adjusted times for C, which passes tasks and m as the bytes of a head (rules R12.1, R12.6).
-use Rattle.std.specs.Prelude.{◌≡◌, List, ℕ, ℤ, length}
+use Rattle.std.specs.Prelude.{◌≡◌, List, ℕ, ℤ, length, Option, Some, Err}
 use Rattle.std.proofs.Common.{sym, ◌∙◌}
 use Rattle.vocabulary.specs.Test.{pick}
 use Rattle.kinds.specs.Tasks.{view}
 use Rattle.reader.specs.Files.{taken_of}
 use Rattle.screen.specs.declared.Finding.{Finding}
 use Rattle.screen.specs.declared.Finding.TheVariants as finding
-use Rattle.screen.specs.declared.Adjusted.{Adjusted}
-use Rattle.screen.specs.declared.Adjusted.TheVariants as adjusted
+use Rattle.screen.specs.Answers.{Adjusted}
+use Rattle.screen.specs.declared.Unadjusted.TheVariants as unadjusted
 use Rattle.screen.specs.Findings.{finding_of, adjusted_of, releases_left, deadlines_left}
 
-unfoldable pub screened_of : List ℕ → Finding
-screened_of tasks = pick (taken_of tasks).fits (finding_of (view (taken_of tasks).set)) finding.BadSet
+unfoldable pub screened_of : List ℕ → Option Finding
+screened_of tasks = pick (taken_of tasks).fits (finding_of (view (taken_of tasks).set)) (Some finding.BadSet)
 
 -- the answer, for buffers of p and q places
 unfoldable pub adjusted_head : List ℕ → ℕ → ℕ → Adjusted
-adjusted_head tasks p q = pick (taken_of tasks).fits (adjusted_of (view (taken_of tasks).set) p q) adjusted.BadSet
+adjusted_head tasks p q = pick (taken_of tasks).fits (adjusted_of (view (taken_of tasks).set) p q) (Err unadjusted.BadSet)
 
 -- what the buffers hold afterwards; a refusal leaves both as they are
 unfoldable pub releases_kept : List ℕ → List ℤ → List ℤ → List ℤ

@@ -2,7 +2,7 @@
 use Rattle.std.specs.Prelude.{◌≡◌, List, ℤ, length}
 use Rattle.std.proofs.Common.{sym, ◌∙◌}
 use Rattle.kinds.specs.Tasks.{Set}
-use Rattle.screen.specs.declared.Adjusted.{Adjusted}
+use Rattle.screen.specs.Answers.{Adjusted}
 use Rattle.screen.specs.Findings.{adjusted_of, releases_left, deadlines_left}
 
 -- the answer a, and what the buffers r and d hold afterwards

@@ -14,8 +14,8 @@ use Rattle.writer.specs.declared.WriteError.{WriteError}
 use Rattle.writer.specs.Answers as writeAnswers
 use Rattle.writer.specs.Format.{bytes_of}
 use Rattle.writer.specs.Writing.{written_of, left_in, write_for, write_head_for}
-use Rattle.screen.specs.declared.Adjusted.{Adjusted}
-use Rattle.screen.specs.declared.Adjusted.TheVariants as adjusted
+use Rattle.screen.specs.Answers.{Adjusted}
+use Rattle.screen.specs.declared.Unadjusted.TheVariants as unadjusted
 use Rattle.screen.specs.Answers.{finding_number, adjusted_number, written as is_written}
 use Rattle.screen.specs.Findings.{adjusted_of, releases_left, deadlines_left}
 use Rattle.screen.specs.Heads.{screened_of, adjusted_head, releases_kept, deadlines_kept, AdjustedBy}
@@ -73,12 +73,12 @@ times_refused tasks r d r' d' n outcome refused =
     (outcome.releases ∙ w.0, outcome.deadlines ∙ w.1)
   where
     unwritten : (a : Adjusted) → (adjusted_number a ≡ 0 → ⊥) → is_written a ≡ false
-    unwritten adjusted.Written h = absurd (h refl)
-    unwritten adjusted.BadSet h = refl
-    unwritten adjusted.WrongLength h = refl
-    unwritten (adjusted.Cycle i k) h = refl
+    unwritten (Ok tt) h = absurd (h refl)
+    unwritten (Err unadjusted.BadSet) h = refl
+    unwritten (Err unadjusted.WrongLength) h = refl
+    unwritten (Err (unadjusted.Cycle i k)) h = refl
 
-    by : (b : Bool) (a : Adjusted) (x y : List ℤ) → (adjusted_number (pick b a adjusted.BadSet) ≡ 0 → ⊥)
+    by : (b : Bool) (a : Adjusted) (x y : List ℤ) → (adjusted_number (pick b a (Err unadjusted.BadSet)) ≡ 0 → ⊥)
         → (pick b (pick (is_written a) x r) r ≡ r) × (pick b (pick (is_written a) y d) d ≡ d)
     by true a x y h = let e = unwritten a h in (rw e, rw e)
     by false a x y h = (refl, refl)

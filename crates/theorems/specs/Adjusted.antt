@@ -1,5 +1,5 @@
 -- Adjusted times: what an answer of their call says of the set and of the two buffers.
-use Rattle.std.specs.Prelude.{◌≡◌, Bool, ◌||◌, List, ℕ, ◌<◌, eqb, ltb, ℤ, pos, length, get_or}
+use Rattle.std.specs.Prelude.{◌≡◌, Bool, ◌||◌, List, ℕ, ◌<◌, eqb, ltb, ℤ, pos, length, get_or, Some, Ok, Err}
 use Rattle.std.proofs.Math.Path.{refl, subst}
 use Rattle.std.proofs.Common.{sym, ap, ◌∙◌, arith, eqb-true, eq-eqb, ltb-true, ltb-false}
 use Rattle.std.proofs.Math.Bool.{true, false, not}
@@ -15,8 +15,8 @@ use Rattle.reader.specs.Files.{taken_of}
 use Rattle.network.specs.Times.{AdjustedReleases, AdjustedDeadlines, adjusted_release, adjusted_deadline}
 use Rattle.network.specs.Causes.{lowest_cycle, releases_of, deadlines_of}
 use Rattle.screen.specs.declared.Finding.TheVariants as finding
-use Rattle.screen.specs.declared.Adjusted.{Adjusted}
-use Rattle.screen.specs.declared.Adjusted.TheVariants as adjusted
+use Rattle.screen.specs.Answers.{Adjusted}
+use Rattle.screen.specs.declared.Unadjusted.TheVariants as unadjusted
 use Rattle.screen.specs.Answers.{adjusted_number, written}
 use Rattle.screen.specs.Findings.{adjust_rules, adjusted_of, releases_left, deadlines_left}
 use Rattle.screen.specs.Written.{Answered}
@@ -71,10 +71,10 @@ pub record RefusedCycle (s : Set) (i k : ℕ) (r d r' d' : List ℤ) : Type 0 wh
 
 -- the buffers r and d come in, and are r' and d' afterwards
 unfoldable pub Says : Set → (r d : List ℤ) → Adjusted → (r' d' : List ℤ) → Type 0
-Says s r d adjusted.Written r' d' = WrittenTimes s r d r' d'
-Says s r d adjusted.BadSet r' d' = (sound s ≡ false) × Unwritten r d r' d'
-Says s r d adjusted.WrongLength r' d' = RefusedLength s r d r' d'
-Says s r d (adjusted.Cycle i k) r' d' = RefusedCycle s i k r d r' d'
+Says s r d (Ok tt) r' d' = WrittenTimes s r d r' d'
+Says s r d (Err unadjusted.BadSet) r' d' = (sound s ≡ false) × Unwritten r d r' d'
+Says s r d (Err unadjusted.WrongLength) r' d' = RefusedLength s r d r' d'
+Says s r d (Err (unadjusted.Cycle i k)) r' d' = RefusedCycle s i k r d r' d'
 
 module _ (s : Set) (r d : List ℤ) where
   abbrev u : Tasks
@@ -119,14 +119,14 @@ module _ (s : Set) (r d : List ℤ) where
   lowest_job : sound s ≡ true → lowest_cycle s < jobs u → LowestJob u (OnCycle u v) (task_of_job u (lowest_cycle s)) (job_of_job u (lowest_cycle s))
   unfolding Finds
   lowest_job e l =
-      let w : Finds s (finding.Cycle (task_of_job u (lowest_cycle s)) (job_of_job u (lowest_cycle s))) = subst (Finds s) (on_cycle_lem s e l) (finding_true s) in
+      let w : Finds s (Some (finding.Cycle (task_of_job u (lowest_cycle s)) (job_of_job u (lowest_cycle s)))) = subst (Finds s) (on_cycle_lem s e l) (finding_true s) in
       w.lowest
 
   -- ---- the answer, test by test
   abbrev answer : Bool → Bool → Bool → Adjusted
   answer a b c =
-      pick (not a) adjusted.BadSet
-      (pick b adjusted.WrongLength (pick c (adjusted.Cycle (task_of_job u (lowest_cycle s)) (job_of_job u (lowest_cycle s))) adjusted.Written))
+      pick (not a) (Err unadjusted.BadSet)
+      (pick b (Err unadjusted.WrongLength) (pick c (Err (unadjusted.Cycle (task_of_job u (lowest_cycle s)) (job_of_job u (lowest_cycle s)))) (Ok tt)))
 
   abbrev Said : Bool → Bool → Bool → Type 0
   Said a b c = Says s r d (answer a b c) (pick (written (answer a b c)) (releases_of s) r) (pick (written (answer a b c)) (deadlines_of s) d)
@@ -175,19 +175,19 @@ adjusted_bytes tasks r d a r' d' w e =
     (record { answer = w.answer ∙ rw e; releases = w.releases ∙ rw e; deadlines = w.deadlines ∙ rw e })
 
 pub not_adjusted : (tasks : List ℕ) (r d : List ℤ) (a : Adjusted) (r' d' : List ℤ) → AdjustedBy (λ x. x) tasks r d a r' d'
-    → (taken_of tasks).fits ≡ false → (a ≡ adjusted.BadSet) × Unwritten r d r' d'
+    → (taken_of tasks).fits ≡ false → (a ≡ (Err unadjusted.BadSet)) × Unwritten r d r' d'
 unfolding adjusted_head releases_kept deadlines_kept
 not_adjusted tasks r d a r' d' w e =
     (w.answer ∙ rw e, record { releases = w.releases ∙ rw e; deadlines = w.deadlines ∙ rw e })
 
 -- ---- and by the number that C is told
-zero_written : (a : Adjusted) → adjusted_number a ≡ 0 → a ≡ adjusted.Written
-zero_written adjusted.Written e = refl
-zero_written adjusted.BadSet e = absurd (omega arith)
-zero_written adjusted.WrongLength e = absurd (omega arith)
-zero_written (adjusted.Cycle i k) e = absurd (omega arith)
+zero_written : (a : Adjusted) → adjusted_number a ≡ 0 → a ≡ Ok tt
+zero_written (Ok tt) e = refl
+zero_written (Err unadjusted.BadSet) e = absurd (omega arith)
+zero_written (Err unadjusted.WrongLength) e = absurd (omega arith)
+zero_written (Err (unadjusted.Cycle i k)) e = absurd (omega arith)
 
-head_fits : (tasks : List ℕ) (p q : ℕ) → adjusted_head tasks p q ≡ adjusted.Written → (taken_of tasks).fits ≡ true
+head_fits : (tasks : List ℕ) (p q : ℕ) → adjusted_head tasks p q ≡ Ok tt → (taken_of tasks).fits ≡ true
 unfolding adjusted_head
 head_fits tasks p q e = (took (taken_of tasks).fits _ _ _ e (λ z. omega (arith, ap adjusted_number z))).0
 
@@ -199,5 +199,5 @@ adjusted_zero tasks r d r' d' w =
     let a = zero_written (adjusted_head tasks (length r) (length d)) (sym w.answer) in
     let f = head_fits tasks (length r) (length d) a in (
       f,
-      adjusted_bytes tasks r d adjusted.Written r' d' (record { answer = sym a; releases = w.releases; deadlines = w.deadlines }) f,
+      adjusted_bytes tasks r d (Ok tt) r' d' (record { answer = sym a; releases = w.releases; deadlines = w.deadlines }) f,
     )

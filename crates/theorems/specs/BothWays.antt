@@ -1,6 +1,6 @@
 -- Two tasks that are linked both ways, one of the two ways into the next round, make no cycle: every link leads to the other task in the same round,
 -- or into the next.
-use Rattle.std.specs.Prelude.{◌≡◌, refl, ◌⊎◌, eqb}
+use Rattle.std.specs.Prelude.{◌≡◌, refl, ◌⊎◌, eqb, Some}
 use Rattle.std.proofs.Common.{ap, ap₂, subst, ⊎_elim, eq-eqb, ne_eqb}
 use Prim.Native.Nat.{ℕ, ◌+◌, ◌*◌, ◌/◌, ◌<◌}
 use Rattle.std.proofs.Math.Nat.{add-mul-div_right, div-eq_of_lt}
@@ -115,7 +115,7 @@ module _ (s : Set) (f : Sound s) (home on : ℕ) (lh : home < s.patterns.count) 
       omega (arith, ap far w.from_is, ap far w.to_is, a, b, grows w.pattern w.pair w.turn w.pattern_low w.pair_low))
 
   -- ==== and the screen does not answer 13.
-  pub both_ways_not_found : (i k : ℕ) → finding_of s ≡ finding.Cycle i k → ⊥
+  pub both_ways_not_found : (i k : ℕ) → finding_of s ≡ Some (finding.Cycle i k) → ⊥
   unfolding Finds network
   both_ways_not_found i k e =
       let w = (subst (Finds s) e (finding_true s)).lowest in

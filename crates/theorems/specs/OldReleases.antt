@@ -1,5 +1,5 @@
 -- The rule for adjusted releases as it was before request 105, and that the screen's number is the same under both. Nothing else uses the old rule.
-use Rattle.std.specs.Prelude.{◌≡◌, refl, Bool, true, false, List, [], ◌∷◌, ◌↔◌, ℕ, ◌≤◌, ◌<◌}
+use Rattle.std.specs.Prelude.{◌≡◌, refl, Bool, true, false, List, [], ◌∷◌, ◌↔◌, ℕ, ◌≤◌, ◌<◌, Option, Some}
 use Rattle.std.proofs.Common.{sym, ◌∙◌, arith, ltb-false}
 use Rattle.std.proofs.lemmas.Bool.{not-false}
 use Rattle.vocabulary.specs.Test.{pick}
@@ -46,7 +46,7 @@ abbrev pub old_release : Tasks → Patterns → ℕ → ℕ
 old_release u v x = release_by old_weight u v x
 
 -- what the screen found by them
-abbrev pub old_finding : Set → Finding
+abbrev pub old_finding : Set → Option Finding
 old_finding s = finding_by old_weight s
 
 -- ==== They were the only ones.
@@ -111,7 +111,7 @@ pub same_screened : (tasks : List ℕ) → finding_number (screened_of tasks) �
 unfolding screened_of
 same_screened tasks = go (taken_of tasks).fits
   where
-    go : (b : Bool) → finding_number (pick b (finding_of (view (taken_of tasks).set)) finding.BadSet)
+    go : (b : Bool) → finding_number (pick b (finding_of (view (taken_of tasks).set)) (Some finding.BadSet))
         ≡ pick b (finding_number (old_finding (view (taken_of tasks).set))) 10
     go true = same_findings (view (taken_of tasks).set)
     go false = refl
@@ -132,7 +132,7 @@ pressed =
     }
 
 -- ==== Here the old rule named task 1 and the new one names task 0.
-pub another_job : (old_finding pressed ≡ finding.TooTight 1 0) × (finding_of pressed ≡ finding.TooTight 0 0)
+pub another_job : (old_finding pressed ≡ Some (finding.TooTight 1 0)) × (finding_of pressed ≡ Some (finding.TooTight 0 0))
 unfolding finding_by screen_rules first_of least all total table join gather lcm lcm_of reach loops longest.most longest.entry longest.rounds
     soonest.fewest soonest.due soonest.soonest holds rises pairs_in cycle jobs_of jobs_before jobs cycle_fits release due number_of_job task_of_job job_of_job common
     link_from link_to repeats links_of links inner edition_of spans_of links_in attributes_fit task_fits pair_key pair_fits pattern_key heading_fits pattern_fits opening_fits

@@ -1,5 +1,5 @@
 -- Two sets that agree on what counts get the same finding and the same adjusted times.
-use Rattle.std.specs.Prelude.{◌≡◌, refl, Bool, true, false, ◌||◌, not, List, [], ◌∷◌, ◌++◌, eqb, ℤ, pos, ◌-ℤ◌, length}
+use Rattle.std.specs.Prelude.{◌≡◌, refl, Bool, true, false, ◌||◌, not, List, [], ◌∷◌, ◌++◌, eqb, ℤ, pos, ◌-ℤ◌, length, Some, Err}
 use Rattle.std.proofs.Common.{sym, ◌∙◌, arith}
 use Rattle.std.proofs.Math.Path.{ap, ap₂}
 use Rattle.std.proofs.Math.Bool.{◌&&◌}
@@ -33,8 +33,8 @@ use Rattle.network.specs.Times.{own_release, own_due, own_running, release_by, a
 use Rattle.network.specs.Causes.{on_cycle, load, room, tight_by, tight, lowest_cycle, lowest_tight, releases_of, deadlines_of}
 use Rattle.network.specs.JobTimes.{table_same}
 use Rattle.screen.specs.declared.Finding.TheVariants as finding
-use Rattle.screen.specs.declared.Adjusted.{Adjusted}
-use Rattle.screen.specs.declared.Adjusted.TheVariants as adjusted
+use Rattle.screen.specs.Answers.{Adjusted}
+use Rattle.screen.specs.declared.Unadjusted.TheVariants as unadjusted
 use Rattle.screen.specs.Answers.{written}
 use Rattle.screen.specs.Findings.{screen_rules, finding_by, finding_of, adjust_rules, adjusted_of, releases_left, deadlines_left}
 use Rattle.screen.proofs.Order.{unsound_set}
@@ -191,12 +191,12 @@ same_finding_of s t g =
     (λ e.
     let f = sound_facts s (not-false (sound s) e) in
     first_same _ _ _ _ _ (ap₂ ltb (same_cycle s t g f) (jobs_agree s t g))
-    (λ a. named s t g f finding.Cycle (lowest_cycle s) (lowest_cycle t) (same_cycle s t g f))
+    (λ a. named s t g f (λ i k. Some (finding.Cycle i k)) (lowest_cycle s) (lowest_cycle t) (same_cycle s t g f))
     (λ a.
-    first_same _ _ _ _ _ (ap₂ ltb (same_room s t g f) (same_load s t g f)) (λ b. ap₂ finding.Overload (same_load s t g f) (same_room s t g f))
+    first_same _ _ _ _ _ (ap₂ ltb (same_room s t g f) (same_load s t g f)) (λ b. ap₂ (λ a c. Some (finding.Overload a c)) (same_load s t g f) (same_room s t g f))
     (λ b.
     first_same _ _ _ _ _ (ap₂ ltb (same_lowest_tight s t g f) (jobs_agree s t g))
-    (λ c. named s t g f finding.TooTight (lowest_tight s) (lowest_tight t) (same_lowest_tight s t g f)) (λ c. refl))))
+    (λ c. named s t g f (λ i k. Some (finding.TooTight i k)) (lowest_tight s) (lowest_tight t) (same_lowest_tight s t g f)) (λ c. refl))))
 
 -- ==== the same answer from the call for adjusted times,
 pub same_adjusted : (s t : Set) → Agree s t → (p q : ℕ) → adjusted_of s p q ≡ adjusted_of t p q
@@ -208,7 +208,7 @@ same_adjusted s t g p q =
     first_same _ _ _ _ _ (ap (λ (n : ℕ). not (eqb p n) || not (eqb q n)) (jobs_agree s t g)) (λ a. refl)
     (λ a.
     first_same _ _ _ _ _ (ap₂ ltb (same_cycle s t g f) (jobs_agree s t g))
-    (λ b. named s t g f adjusted.Cycle (lowest_cycle s) (lowest_cycle t) (same_cycle s t g f)) (λ b. refl)))
+    (λ b. named s t g f (λ i k. Err (unadjusted.Cycle i k)) (lowest_cycle s) (lowest_cycle t) (same_cycle s t g f)) (λ b. refl)))
 
 -- what a call leaves in a buffer: the times of a sound set, or what was there
 left_same : (s t : Set) → Agree s t → (p q : ℕ) (old : List ℤ) (times : Set → List ℤ) → (Sound s → times s ≡ times t)

@@ -1,5 +1,5 @@
 -- A finding is final: no plan of a set with a finding is valid.
-use Rattle.std.specs.Prelude.{◌≡◌, refl, Bool, true, ◌&&◌, List, ◌⊎◌, ltb, pos}
+use Rattle.std.specs.Prelude.{◌≡◌, refl, Bool, true, ◌&&◌, List, ◌⊎◌, ltb, pos, None}
 use Rattle.std.proofs.Common.{sym, ◌∙◌, inl, inr}
 use Rattle.std.proofs.Math.Path.{ap}
 use Prim.Native.Nat.{ℕ, ◌+◌, ◌-◌, ◌<◌, ◌≤◌}
@@ -22,7 +22,6 @@ use Rattle.kinds.specs.Valid.{TickOf, Valid}
 use Rattle.kinds.specs.Sound.{sound}
 use Rattle.kinds.proofs.SoundFacts.{Sound, sound_facts}
 use Rattle.laws.proofs.Order.{task_low, task_of_number, job_of_number}
-use Rattle.screen.specs.declared.Finding.TheVariants as finding
 use Rattle.network.specs.Network.{network}
 use Rattle.network.specs.NetworkLaws.{jobs_of_network, inside_network, inner_low, Made, each_made}
 use Rattle.network.specs.Times.{own_release, own_due, own_running, release_by, adjusted_release}
@@ -131,12 +130,12 @@ module _ (s : Set) (f : Sound s) (slots : List ℕ) (valid : Valid s (plan_of s 
       )
 
 -- ==== A set that has a valid plan has no finding.
-pub no_finding : (s : Set) → sound s ≡ true → (slots : List ℕ) → Valid s (plan_of s slots) → finding_of s ≡ finding.Nothing
+pub no_finding : (s : Set) → sound s ≡ true → (slots : List ℕ) → Valid s (plan_of s slots) → finding_of s ≡ None
 unfolding Finds
 no_finding s e slots valid =
     let f : Sound s = sound_facts s e in
     let free : NoCycle s.tasks s.patterns = none_on_cycle s f slots valid in
-    sym (only_finding s finding.Nothing
+    sym (only_finding s None
     (record {
       is_sound = e;
       no_cycle_lem = free;
@@ -145,5 +144,5 @@ no_finding s e slots valid =
     }))
 
 -- ==== So a finding is final: after one, no plan of the set is valid, whatever its slots.
-pub finding_final : (s : Set) → sound s ≡ true → (finding_of s ≡ finding.Nothing → ⊥) → (slots : List ℕ) → Valid s (plan_of s slots) → ⊥
+pub finding_final : (s : Set) → sound s ≡ true → (finding_of s ≡ None → ⊥) → (slots : List ℕ) → Valid s (plan_of s slots) → ⊥
 finding_final s e h slots valid = h (no_finding s e slots valid)

@@ -1,5 +1,5 @@
 -- A finding's evidence is what it says, and it is the only finding that the set allows.
-use Rattle.std.specs.Prelude.{◌≡◌, false, not, List, [], ◌∷◌, ◌↔◌, ℕ, ◌+◌, ◌≤◌, ◌<◌, ℤ, pos}
+use Rattle.std.specs.Prelude.{◌≡◌, false, not, List, [], ◌∷◌, ◌↔◌, ℕ, ◌+◌, ◌≤◌, ◌<◌, ℤ, pos, Option, Some, None}
 use Rattle.std.proofs.Math.Path.{refl}
 use Rattle.std.proofs.Common.{sym, ap, ap₂, ◌∙◌, subst, arith, le-ltb, ltb-true, ltb-false}
 use Rattle.std.proofs.Math.Bool.{true}
@@ -85,12 +85,12 @@ pub record FoundNothing (s : Set) : Type 0 where
   pub no_overload : load s.tasks ≤ room s
   pub none_tight : (x : ℕ) → x < jobs s.tasks → Tight s.tasks s.patterns x → ⊥
 
-unfoldable pub Finds : Set → Finding → Type 0
-Finds s finding.Nothing = FoundNothing s
-Finds s finding.BadSet = FoundBad s
-Finds s (finding.Cycle i k) = FoundCycle s i k
-Finds s (finding.Overload a b) = FoundOverload s a b
-Finds s (finding.TooTight i k) = FoundTight s i k
+unfoldable pub Finds : Set → Option Finding → Type 0
+Finds s None = FoundNothing s
+Finds s (Some finding.BadSet) = FoundBad s
+Finds s (Some (finding.Cycle i k)) = FoundCycle s i k
+Finds s (Some (finding.Overload a b)) = FoundOverload s a b
+Finds s (Some (finding.TooTight i k)) = FoundTight s i k
 
 -- ---- a lowest job is the lowest number, and back
 module _ (u : Tasks) (P : ℕ → Type 0) where
@@ -107,7 +107,7 @@ module _ (u : Tasks) (P : ℕ → Type 0) where
   job_to i k w = record { low = number_low u i k w.task w.job; here = w.is; lower = w.before }
 
   -- the task and the job of the number are those that it was made of
-  same_job : (A : ℕ → ℕ → Finding) (i k x : ℕ) → LowestJob u P i k → number_of_job u i k ≡ x → A i k ≡ A (task_of_job u x) (job_of_job u x)
+  same_job : (A : ℕ → ℕ → Option Finding) (i k x : ℕ) → LowestJob u P i k → number_of_job u i k ≡ x → A i k ≡ A (task_of_job u x) (job_of_job u x)
   same_job A i k x w e =
       ap₂ A (sym (task_of_number u i k w.task w.job) ∙ ap (task_of_job u) e) (sym (job_of_number u i k w.task w.job) ∙ ap (job_of_job u) e)
 
@@ -149,27 +149,27 @@ module _ (s : Set) (e : sound s ≡ true) where
   free_lowest free = none_least (on_cycle u v) (OnCycle u v) (jobs u) cycle_iff free.each
 
   -- ---- what is so is found
-  only_nothing : FoundNothing s → finding.Nothing ≡ finding_of s
+  only_nothing : FoundNothing s → None ≡ finding_of s
   only_nothing w =
       sym (nothing_found s e (free_lowest w.no_cycle_lem) w.no_overload
       (none_least (tight u v) (Tight u v) (jobs u) (tight_iff own_running w.no_cycle_lem) w.none_tight))
 
-  only_cycle : (i k : ℕ) → FoundCycle s i k → finding.Cycle i k ≡ finding_of s
+  only_cycle : (i k : ℕ) → FoundCycle s i k → Some (finding.Cycle i k) ≡ finding_of s
   only_cycle i k w =
       let m = job_to u (OnCycle u v) i k w.lowest in
       let x : number_of_job u i k ≡ lowest_cycle s = lowest_is (on_cycle u v) (OnCycle u v) (jobs u) cycle_iff (number_of_job u i k) m in
-      same_job u (OnCycle u v) finding.Cycle i k (lowest_cycle s) w.lowest x ∙ sym (on_cycle_lem s e (omega (arith, m.low)))
+      same_job u (OnCycle u v) (λ a b. Some (finding.Cycle a b)) i k (lowest_cycle s) w.lowest x ∙ sym (on_cycle_lem s e (omega (arith, m.low)))
 
-  only_overload : (a b : ℕ) → FoundOverload s a b → finding.Overload a b ≡ finding_of s
+  only_overload : (a b : ℕ) → FoundOverload s a b → Some (finding.Overload a b) ≡ finding_of s
   only_overload a b w =
-      ap₂ finding.Overload w.sum w.slots
+      ap₂ (λ (c d : ℕ). Some (finding.Overload c d)) w.sum w.slots
       ∙ sym (overloaded s e (free_lowest w.no_cycle_lem) (omega (arith, w.sum, w.slots, w.over)))
 
-  only_tight : (i k : ℕ) → FoundTight s i k → finding.TooTight i k ≡ finding_of s
+  only_tight : (i k : ℕ) → FoundTight s i k → Some (finding.TooTight i k) ≡ finding_of s
   only_tight i k w =
       let m = job_to u (Tight u v) i k w.lowest in
       let x : number_of_job u i k ≡ lowest_tight s = lowest_is (tight u v) (Tight u v) (jobs u) (tight_iff own_running w.no_cycle_lem) (number_of_job u i k) m in
-      same_job u (Tight u v) finding.TooTight i k (lowest_tight s) w.lowest x
+      same_job u (Tight u v) (λ a b. Some (finding.TooTight a b)) i k (lowest_tight s) w.lowest x
       ∙ sym (too_tight s e (free_lowest w.no_cycle_lem) w.no_overload (omega (arith, m.low)))
 
 -- ---- the chain of findings
@@ -183,13 +183,13 @@ screen_claims s =
     ∷ []
 
 -- and what its answer says where it is broken
-unfoldable FoundBy : Set → Finding → Type 0
-FoundBy s finding.Nothing = Unit {0}
-FoundBy s finding.BadSet = sound s ≡ false
-FoundBy s (finding.Cycle i k) =
+unfoldable FoundBy : Set → Option Finding → Type 0
+FoundBy s None = Unit {0}
+FoundBy s (Some finding.BadSet) = sound s ≡ false
+FoundBy s (Some (finding.Cycle i k)) =
     (lowest_cycle s < jobs s.tasks) × (i ≡ task_of_job s.tasks (lowest_cycle s)) × (k ≡ job_of_job s.tasks (lowest_cycle s))
-FoundBy s (finding.Overload a b) = (room s < load s.tasks) × (a ≡ load s.tasks) × (b ≡ room s)
-FoundBy s (finding.TooTight i k) =
+FoundBy s (Some (finding.Overload a b)) = (room s < load s.tasks) × (a ≡ load s.tasks) × (b ≡ room s)
+FoundBy s (Some (finding.TooTight i k)) =
     (lowest_tight s < jobs s.tasks) × (i ≡ task_of_job s.tasks (lowest_tight s)) × (k ≡ job_of_job s.tasks (lowest_tight s))
 
 told : (s : Set) → Each (Told (KeptBy (screen_claims s)) (FoundBy s) finding_number) (screen_rules own_running s)
@@ -222,9 +222,9 @@ module _ (s : Set) where
   pub free : sound s ≡ true → jobs s.tasks ≤ lowest_cycle s → NoCycle s.tasks s.patterns
   free e l = record { each = least_none (on_cycle s.tasks s.patterns) (OnCycle s.tasks s.patterns) (jobs s.tasks) (cycle_iff s e) l }
 
-  meant : (f : Finding) → KeptBefore s (finding_number f) → FoundBy s f → Finds s f
+  meant : (f : Option Finding) → KeptBefore s (finding_number f) → FoundBy s f → Finds s f
   unfolding Finds FoundBy screen_claims KeptBy screen_rules earlier
-  meant finding.Nothing k w =
+  meant None k w =
       let e = k 10 refl in
       let c = free e (k 13 refl) in
       record {
@@ -233,15 +233,15 @@ module _ (s : Set) where
         no_overload = k 14 refl;
         none_tight = least_none (tight s.tasks s.patterns) (Tight s.tasks s.patterns) (jobs s.tasks) (tight_iff s e own_running c) (k 15 refl);
       }
-  meant finding.BadSet k w = record { unsound = w }
-  meant (finding.Cycle i j) k w =
+  meant (Some finding.BadSet) k w = record { unsound = w }
+  meant (Some (finding.Cycle i j)) k w =
       let e = k 10 refl in
       let x = least_lowest (on_cycle s.tasks s.patterns) (OnCycle s.tasks s.patterns) (jobs s.tasks) (cycle_iff s e) w.0 in
       record { is_sound = e; lowest = rw (w.1, w.2) (job_from s.tasks (OnCycle s.tasks s.patterns) (lowest_cycle s) x) }
-  meant (finding.Overload a b) k w =
+  meant (Some (finding.Overload a b)) k w =
       let e = k 10 refl in
       record { is_sound = e; no_cycle_lem = free e (k 13 refl); sum = w.1; slots = w.2; over = rw (w.1, w.2) w.0 }
-  meant (finding.TooTight i j) k w =
+  meant (Some (finding.TooTight i j)) k w =
       let e = k 10 refl in
       let c = free e (k 13 refl) in
       let x = least_lowest (tight s.tasks s.patterns) (Tight s.tasks s.patterns) (jobs s.tasks) (tight_iff s e own_running c) w.0 in
@@ -258,17 +258,17 @@ module _ (s : Set) where
 pub finding_true : (s : Set) → Finds s (finding_of s)
 unfolding finding_by FoundBy
 finding_true s =
-    let w = first_told finding.Nothing (KeptBy (screen_claims s)) (FoundBy s) finding_number (screen_rules own_running s) (told s) tt in
+    let w = first_told None (KeptBy (screen_claims s)) (FoundBy s) finding_number (screen_rules own_running s) (told s) tt in
     meant s (finding_of s) w.0 w.1
 
 -- ==== And it is the only finding of which this can be said: two that are allowed are equal.
-pub only_finding : (s : Set) → (a : Finding) → Finds s a → a ≡ finding_of s
+pub only_finding : (s : Set) → (a : Option Finding) → Finds s a → a ≡ finding_of s
 unfolding Finds
-only_finding s finding.Nothing w = only_nothing s w.is_sound w
-only_finding s finding.BadSet w = sym (not_sound s w.unsound)
-only_finding s (finding.Cycle i k) w = only_cycle s w.is_sound i k w
-only_finding s (finding.Overload a b) w = only_overload s w.is_sound a b w
-only_finding s (finding.TooTight i k) w = only_tight s w.is_sound i k w
+only_finding s None w = only_nothing s w.is_sound w
+only_finding s (Some finding.BadSet) w = sym (not_sound s w.unsound)
+only_finding s (Some (finding.Cycle i k)) w = only_cycle s w.is_sound i k w
+only_finding s (Some (finding.Overload a b)) w = only_overload s w.is_sound a b w
+only_finding s (Some (finding.TooTight i k)) w = only_tight s w.is_sound i k w
 
-pub same_finding : (s : Set) → (a b : Finding) → Finds s a → Finds s b → a ≡ b
+pub same_finding : (s : Set) → (a b : Option Finding) → Finds s a → Finds s b → a ≡ b
 same_finding s a b p q = only_finding s a p ∙ sym (only_finding s b q)

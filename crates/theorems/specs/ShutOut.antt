@@ -1,5 +1,5 @@
 -- What the theorems shut out: judges, screens and steps that would be of no use do not satisfy them, and ours do.
-use Rattle.std.specs.Prelude.{◌≡◌, true, false, List, [], ◌∷◌, ℕ, ◌^◌, ◌<◌, get_or}
+use Rattle.std.specs.Prelude.{◌≡◌, true, false, List, [], ◌∷◌, ℕ, ◌^◌, ◌<◌, get_or, Option, Some, None}
 use Rattle.std.proofs.Math.Path.{refl, ap}
 use Rattle.std.proofs.Common.{sym, ◌∙◌, arith}
 use Rattle.vocabulary.proofs.Test.{clash}
@@ -102,33 +102,33 @@ no_invented_ticks s slots i k c a b h n = h (gets_ticks s.tasks (plan_of s slots
 
 -- ---- screens
 -- every finding is true
-pub record RightScreen (screen : Set → Finding) : Type 0 where
+pub record RightScreen (screen : Set → Option Finding) : Type 0 where
   pub finds : (s : Set) → Finds s (screen s)
 
 pub right_screen : RightScreen finding_of
 right_screen = record { finds = finding_true }
 
-screened : (finding_of small ≡ finding.Nothing) × (finding_of crowded ≡ finding.Overload 2 1)
+screened : (finding_of small ≡ None) × (finding_of crowded ≡ Some (finding.Overload 2 1))
 unfolding finding_by screen_rules first_of least all total table join lcm lcm_of reach loops holds cycle jobs_of jobs_before jobs cycle_fits release due
     task_of_job job_of_job longest.most longest.entry longest.rounds soonest.fewest soonest.due soonest.soonest links attributes_fit task_fits opening_fits sound
     cycle_links link_starts link_ends network own_release own_due own_running release_by adjusted_deadline on_cycle load room tight_by
 screened = (refl, refl)
 
-module _ (screen : Set → Finding) (right : RightScreen screen) where
+module _ (screen : Set → Option Finding) (right : RightScreen screen) where
   -- ==== A screen whose findings are true does not always find something,
-  pub not_always_find : ((s : Set) → screen s ≡ finding.Nothing → ⊥) → ⊥
+  pub not_always_find : ((s : Set) → screen s ≡ None → ⊥) → ⊥
   not_always_find h = h small (only_finding small (screen small) (right.finds small) ∙ screened.0)
 
   -- ==== nor never.
-  pub not_never_find : ((s : Set) → screen s ≡ finding.Nothing) → ⊥
+  pub not_never_find : ((s : Set) → screen s ≡ None) → ⊥
   not_never_find h = omega (arith, ap finding_number (sym (h crowded) ∙ only_finding crowded (screen crowded) (right.finds crowded) ∙ screened.1))
 
 -- ==== No number of 14 is invented: both are the sum of C·H/T and m·H.
-pub no_invented_sum : (s : Set) (a b : ℕ) → (a ≡ load s.tasks → ⊥) → Finds s (finding.Overload a b) → ⊥
+pub no_invented_sum : (s : Set) (a b : ℕ) → (a ≡ load s.tasks → ⊥) → Finds s (Some (finding.Overload a b)) → ⊥
 unfolding Finds
 no_invented_sum s a b h f = h f.sum
 
-pub no_invented_room : (s : Set) (a b : ℕ) → (b ≡ room s → ⊥) → Finds s (finding.Overload a b) → ⊥
+pub no_invented_room : (s : Set) (a b : ℕ) → (b ≡ room s → ⊥) → Finds s (Some (finding.Overload a b)) → ⊥
 unfolding Finds
 no_invented_room s a b h f = h f.slots
 

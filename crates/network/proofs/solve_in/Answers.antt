@@ -1,8 +1,12 @@
-use Rattle.network.specs.Outcome.{name_asked, solved_for}
+use Rattle.network.specs.Outcome.{load_needs, room_fits, solved_for}
+use native.Mathlib.Omega.{arith}
 use Rattle.network.proofs.solve_in.Goals as goal
 
-pub name-requires : goal.name-requires
-name-requires c = name_asked _ _ _ _ c.requires _ _ _ _ _ c.solve_sized-p.ensures
+pub load_of-load-requires : goal.load_of-load-requires
+load_of-load-requires c = load_needs _ _ _ _ c.requires
+
+pub overflow_mul-result : goal.overflow_mul-result
+overflow_mul-result c = omega (arith, room_fits _ _ _ _ c.requires)
 
 pub returns : goal.returns
-returns c = solved_for _ _ _ _ c.requires _ _ _ _ _ c.solve_sized-p.ensures c.name.ensures
+returns c = solved_for _ _ _ _ c.requires c.solve_sized-trouble.ensures c.wide.ensures.0 c.load_of-load.ensures

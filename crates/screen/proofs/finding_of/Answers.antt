@@ -1,19 +1,17 @@
-use Rattle.screen.proofs.FoundLaws.{no_jobs, found_cycle, found_overload, found_tight, found_nothing}
+use Rattle.screen.proofs.FoundLaws.{unsound, found_cycle, found_tight, found_nothing}
 use Rattle.screen.proofs.Order.{not_sound}
-use mathlib.Core.Path.{sym}
+use mathlib.Core.Path.{sym, ap, ◌∙◌}
+use Rattle.std.specs.Prelude.{Some}
 use Rattle.screen.proofs.finding_of.Goals as goal
 
-pub returns-then-f-eq0 : goal.returns-then-f-eq0
-returns-then-f-eq0 c = λ s e. sym (not_sound s (no_jobs s _ e c.if-f-eq0.true))
+pub returns-in_default : goal.returns-in_default
+returns-in_default c = λ s e. sym (not_sound s (unsound s (sym c.in_default.is ∙ e)))
 
-pub returns-then-f : goal.returns-then-f
-returns-then-f c = λ s e. found_cycle s _ e c.if-f-eq0.false c.if-f.true
+pub returns-in-Some-Cycle : goal.returns-in-Some-Cycle
+returns-in-Some-Cycle c = λ s e. found_cycle s _ (sym c.in-Some.is ∙ e) _ (c.in-Some-Cycle.is ∙ ap Some (rw c.in-Some-Cycle.is at c.in-Some-Cycle.field-0-is))
 
-pub returns-then-f-2 : goal.returns-then-f-2
-returns-then-f-2 c = λ s e. found_overload s _ e c.if-f-eq0.false c.if-f.false c.if-f-2.true
+pub returns-in-Some-Tight : goal.returns-in-Some-Tight
+returns-in-Some-Tight c = λ s e. rw (c.or.ensures, c.overload_of.ensures) (found_tight s _ (sym c.in-Some.is ∙ e) _ (c.in-Some-Tight.is ∙ ap Some (rw c.in-Some-Tight.is at c.in-Some-Tight.field-0-is)))
 
-pub returns-then-f-3 : goal.returns-then-f-3
-returns-then-f-3 c = λ s e. found_tight s _ e c.if-f-eq0.false c.if-f.false c.if-f-2.false c.if-f-3.true
-
-pub returns : goal.returns
-returns c = λ s e. found_nothing s _ e c.if-f-eq0.false c.if-f.false c.if-f-2.false c.if-f-3.false
+pub returns-in-None : goal.returns-in-None
+returns-in-None c = λ s e. c.overload_of-in-None.ensures ∙ found_nothing s _ (sym c.in-Some.is ∙ e) c.in-None.is

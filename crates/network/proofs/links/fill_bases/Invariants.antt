@@ -1,10 +1,6 @@
 use Rattle.kinds.specs.Tasks.{tasks_of}
 use Rattle.network.specs.LinkLists.{Basing}
-use Prim.Native.Nat.{◌-◌}
 use Rattle.network.proofs.links.fill_bases.Given as goal
 
 abbrev pub invariant-loop-i : goal.invariant-loop-i
 invariant-loop-i l = Basing l.h (tasks_of l.n l.attributes) l.base l.b l.i
-
-abbrev pub decreases-loop-i : goal.decreases-loop-i
-decreases-loop-i l = l.n - l.i

@@ -1,10 +1,6 @@
 use Rattle.network.specs.LinkLists.{Spreading}
 use Rattle.kinds.specs.Tasks.{patterns_of}
-use Prim.Native.Nat.{◌-◌}
 use Rattle.network.proofs.links.put_patterns.Given as goal
 
 abbrev pub invariant-loop-k : goal.invariant-loop-k
 invariant-loop-k l = Spreading l.h l.attributes l.base (patterns_of l.n l.headings l.pairs) l.initial.links l.links l.e l.used l.k
-
-abbrev pub decreases-loop-k : goal.decreases-loop-k
-decreases-loop-k l = l.n - l.k

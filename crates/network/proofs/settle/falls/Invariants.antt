@@ -1,11 +1,6 @@
 use Rattle.graph.specs.JobRows.{starts, ends, aheads}
 use Rattle.graph.specs.Cycle.{Falling}
-use Prim.Native.Nat.{◌-◌}
-use lib.ListN.{length}
 use Rattle.network.proofs.settle.falls.Given as goal
 
 abbrev pub invariant-loop-k : goal.invariant-loop-k
 invariant-loop-k l = Falling (starts l.links) (ends l.links) (aheads l.jobs) l.k
-
-abbrev pub decreases-loop-k : goal.decreases-loop-k
-decreases-loop-k l = length l.links - l.k

@@ -17,12 +17,6 @@ overflow_cast-result-then-y-k c = omega (arith, c.requires.low, c.loop-i.invaria
 pub returns-then-y-k : goal.returns-then-y-k
 returns-then-y-k c = name_hit _ _ _ _ _ _ c.requires c.loop-i.invariant c.loop-i-test.true c.task_at-t.ensures c.wide-k.ensures.0 c.if-y-k.true
 
-pub overflow_add-i : goal.overflow_add-i
-overflow_add-i c = omega (arith, c.requires.few, c.loop-i-test.true)
-
-pub loop-i-smaller : goal.loop-i-smaller
-loop-i-smaller c = omega (arith, c.loop-i-test.true)
-
 pub loop-i-preserved : goal.loop-i-preserved
 loop-i-preserved c = name_on _ _ _ _ _ _ c.requires c.loop-i.invariant c.loop-i-test.true c.task_at-t.ensures c.wide-k.ensures.0 c.if-y-k.false
 

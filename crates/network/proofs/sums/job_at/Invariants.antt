@@ -1,10 +1,6 @@
 use Rattle.network.specs.Named.{Naming}
 use Rattle.kinds.specs.Tasks.{tasks_of}
-use Prim.Native.Nat.{◌-◌}
 use Rattle.network.proofs.sums.job_at.Given as goal
 
 abbrev pub invariant-loop-i : goal.invariant-loop-i
 invariant-loop-i l = Naming (tasks_of l.n l.attributes) l.x l.y l.i
-
-abbrev pub decreases-loop-i : goal.decreases-loop-i
-decreases-loop-i l = l.n - l.i

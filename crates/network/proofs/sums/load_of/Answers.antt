@@ -14,12 +14,6 @@ overflow_mul-sum c = omega (arith, load_low _ _ _ _ c.requires c.loop-i.invarian
 pub overflow_add-sum : goal.overflow_add-sum
 overflow_add-sum c = omega (arith, load_room _ _ _ _ c.requires c.loop-i.invariant c.loop-i-test.true c.task_at-t.ensures)
 
-pub overflow_add-i : goal.overflow_add-i
-overflow_add-i c = omega (arith, c.requires.few, c.loop-i-test.true)
-
-pub loop-i-smaller : goal.loop-i-smaller
-loop-i-smaller c = omega (arith, c.loop-i-test.true)
-
 pub loop-i-preserved : goal.loop-i-preserved
 loop-i-preserved c = load_on _ _ _ _ c.requires c.loop-i.invariant c.loop-i-test.true c.task_at-t.ensures
 

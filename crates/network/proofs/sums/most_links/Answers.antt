@@ -14,12 +14,6 @@ overflow_mul-sum c = omega (arith, bound_low _ _ _ _ _ c.requires c.loop-k.invar
 pub overflow_add-sum : goal.overflow_add-sum
 overflow_add-sum c = omega (arith, bound_room _ _ _ _ _ c.requires c.loop-k.invariant c.loop-k-test.true c.pattern_at-p.ensures c.wide.ensures.0 c.task_at-t.ensures c.wide-in-loop-k.ensures.0 c.wide-in-loop-k-2.ensures.0)
 
-pub overflow_add-k : goal.overflow_add-k
-overflow_add-k c = omega (arith, c.requires.few, c.loop-k-test.true)
-
-pub loop-k-smaller : goal.loop-k-smaller
-loop-k-smaller c = omega (arith, c.loop-k-test.true)
-
 pub loop-k-preserved : goal.loop-k-preserved
 loop-k-preserved c = bound_on _ _ _ _ _ c.requires c.loop-k.invariant c.loop-k-test.true c.pattern_at-p.ensures c.wide.ensures.0 c.task_at-t.ensures c.wide-in-loop-k.ensures.0 c.wide-in-loop-k-2.ensures.0
 

@@ -1,11 +1,7 @@
 use Rattle.network.specs.Named.{Bounding}
 use Rattle.kinds.specs.Tasks.{tasks_of, patterns_of}
 use mathlib.Core.List.{[]}
-use Prim.Native.Nat.{◌-◌}
 use Rattle.network.proofs.sums.most_links.Given as goal
 
 abbrev pub invariant-loop-k : goal.invariant-loop-k
 invariant-loop-k l = Bounding l.h (tasks_of 0 l.attributes) (patterns_of l.n l.headings []) l.sum l.k
-
-abbrev pub decreases-loop-k : goal.decreases-loop-k
-decreases-loop-k l = l.n - l.k

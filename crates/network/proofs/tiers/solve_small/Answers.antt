@@ -1,4 +1,4 @@
-use Rattle.network.specs.Outcome.{expand_asked, solve_asked, lowest_in_lem}
+use Rattle.network.specs.Outcome.{expand_asked, solve_asked, trouble_in}
 use Rattle.vocabulary.proofs.Prefix.{taken}
 use mathlib.Core.Path.{refl, sym}
 use native.Mathlib.Omega.{arith}
@@ -38,4 +38,4 @@ pub shape_of-deadlines : goal.shape_of-deadlines
 shape_of-deadlines c = c.solve_in.auto.deadlines
 
 pub returns : goal.returns
-returns c = lowest_in_lem _ _ _ _ c.requires.numbers _ _ c.expand-e.ensures _ _ _ _ _ _ c.solve_in.ensures
+returns c = trouble_in _ _ _ _ c.requires.numbers _ _ c.expand-e.ensures _ _ _ _ _ _ c.solve_in.ensures

@@ -1,5 +1,5 @@
 use Rattle.network.specs.JobTimes.{over_is}
-use Rattle.vocabulary.proofs.Least.{seek, on, hit, miss}
+use Rattle.vocabulary.proofs.Least.{seek, on, found, nowhere}
 use borrow.Author.Tests.{lt-ltb, le-ltb}
 use mathlib.Core.Path.{sym, ◌∙◌}
 use native.Mathlib.Omega.{arith}
@@ -15,10 +15,10 @@ pub overflow_add-r-in-loop-x : goal.overflow_add-r-in-loop-x
 overflow_add-r-in-loop-x c = omega (arith, c.requires.early _ c.loop-x-test.true, c.requires.light _ c.loop-x-test.true, c.requires.late _ c.loop-x-test.true)
 
 pub returns-then-r-gt12000 : goal.returns-then-r-gt12000
-returns-then-r-gt12000 c = hit _ _ _ c.loop-x.invariant (sym (over_is _ _) ∙ lt-ltb _ _ c.if-r-gt12000.true)
+returns-then-r-gt12000 c = found _ _ _ c.loop-x.invariant c.loop-x-test.true (sym (over_is _ _) ∙ lt-ltb _ _ c.if-r-gt12000.true)
 
 pub loop-x-preserved : goal.loop-x-preserved
 loop-x-preserved c = on _ _ _ c.loop-x.invariant c.loop-x-test.true (sym (over_is _ _) ∙ le-ltb _ _ c.if-r-gt12000.false)
 
 pub returns : goal.returns
-returns c = miss _ _ _ c.loop-x.invariant c.loop-x-test.false
+returns c = nowhere _ _ _ c.loop-x.invariant c.loop-x-test.false

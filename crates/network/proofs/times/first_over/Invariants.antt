@@ -1,11 +1,7 @@
 use Rattle.network.specs.JobTimes.{over}
 use Rattle.vocabulary.specs.Least.{Seeking}
-use Prim.Native.Nat.{◌-◌}
 use lib.ListN.{length}
 use Rattle.network.proofs.times.first_over.Given as goal
 
 abbrev pub invariant-loop-x : goal.invariant-loop-x
 invariant-loop-x l = Seeking (over l.jobs) (length l.jobs) l.x
-
-abbrev pub decreases-loop-x : goal.decreases-loop-x
-decreases-loop-x l = length l.jobs - l.x

@@ -1,10 +1,6 @@
 use Rattle.network.specs.JobTimes.{Owning}
 use Rattle.kinds.specs.Tasks.{tasks_of}
-use Prim.Native.Nat.{◌-◌}
 use Rattle.network.proofs.times.own_times.Given as goal
 
 abbrev pub invariant-loop-i : goal.invariant-loop-i
 invariant-loop-i l = Owning (tasks_of l.n l.attributes) l.jobs l.b l.i
-
-abbrev pub decreases-loop-i : goal.decreases-loop-i
-decreases-loop-i l = l.n - l.i
