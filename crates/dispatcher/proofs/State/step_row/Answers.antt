@@ -1,4 +1,3 @@
-use mathlib.Core.Path.{refl, ◌∙◌}
 use native.Mathlib.Omega.{arith}
 use lib.ListN.{get_or}
 use Rattle.dispatcher.specs.Looks.{tick_on}
@@ -7,13 +6,16 @@ use Rattle.dispatcher.proofs.RowLaws.{row_first, row_refused, row_low, slots_low
 use Rattle.dispatcher.proofs.State.step_row.Goals as goal
 
 pub returns-then-q-row : goal.returns-then-q-row
-returns-then-q-row c = let a = c.args in let p = c.requires in c.refused.ensures ∙ row_refused (tick_on a.f a.attributes.now (λ q. get_or a.row.now q 0) 0 a.self a.report) (row_first a.row.now a.f.tasks a.f.processors p.2 c.first_high-q.ensures) refl (omega (arith, p.2, c.if-q-row.true))
+returns-then-q-row c = let a = c.args in let p = c.requires in row_refused (tick_on a.f a.attributes.now (λ q. get_or a.row.now q 0) a.at a.self a.report) (row_first a.row.now a.f.tasks a.f.processors p.2 c.first_high-q.ensures) (omega (arith, p.2, c.if-q-row.true))
+
+pub overflow_add-result : goal.overflow_add-result
+overflow_add-result c = let p = c.requires in omega (arith, p.0.narrow, p.2, p.3, c.if-q-row.true)
 
 pub shown_row-shown-requires : goal.shown_row-shown-requires
-shown_row-shown-requires c = let a = c.args in let p = c.requires in λ q. omega (arith, p.0.few, all_low a.row.now a.f.processors a.f.tasks p.2 (slots_low (tick_on a.f a.attributes.now (λ q. get_or a.row.now q 0) 0 a.self a.report) (row_first a.row.now a.f.tasks a.f.processors p.2 c.first_high-q.ensures) (omega (arith, p.2, c.if-q-row.false))) q)
+shown_row-shown-requires c = let a = c.args in let p = c.requires in λ q. omega (arith, p.0.few, all_low a.row.now a.f.processors a.f.tasks p.2 (slots_low (tick_on a.f a.attributes.now (λ q. get_or a.row.now q 0) a.at a.self a.report) (row_first a.row.now a.f.tasks a.f.processors p.2 c.first_high-q.ensures) (omega (arith, p.2, c.if-q-row.false))) q)
 
 pub ran_in-ran-requires : goal.ran_in-ran-requires
-ran_in-ran-requires c = let a = c.args in let p = c.requires in (p.0.few, shown_low (tasks_of 0 a.attributes.now) a.self (λ q. get_or a.row.now q 0) c.kept_marks-done.result a.f.tasks c.shown_row-shown.result (all_low a.row.now a.f.processors a.f.tasks p.2 (slots_low (tick_on a.f a.attributes.now (λ q. get_or a.row.now q 0) 0 a.self a.report) (row_first a.row.now a.f.tasks a.f.processors p.2 c.first_high-q.ensures) (omega (arith, p.2, c.if-q-row.false)))) c.shown_row-shown.ensures)
+ran_in-ran-requires c = let a = c.args in let p = c.requires in (p.0.few, shown_low (tasks_of 0 a.attributes.now) a.self (λ q. get_or a.row.now q 0) c.kept_marks-done.result a.f.tasks c.shown_row-shown.result (all_low a.row.now a.f.processors a.f.tasks p.2 (slots_low (tick_on a.f a.attributes.now (λ q. get_or a.row.now q 0) a.at a.self a.report) (row_first a.row.now a.f.tasks a.f.processors p.2 c.first_high-q.ensures) (omega (arith, p.2, c.if-q-row.false)))) c.shown_row-shown.ensures)
 
 pub returns : goal.returns
-returns c = let a = c.args in let p = c.requires in row_shown a.f a.attributes.now a.row.now a.self a.report p.2 p.0.narrow c.kept_marks-done.result c.ran_in-ran.result c.shown_row-shown.result c.kept_marks-done.ensures c.shown_row-shown.ensures c.ran_in-ran.ensures c.after-state.ensures (row_low (tick_on a.f a.attributes.now (λ q. get_or a.row.now q 0) 0 a.self a.report) (row_first a.row.now a.f.tasks a.f.processors p.2 c.first_high-q.ensures) (omega (arith, p.2, c.if-q-row.false)))
+returns c = let a = c.args in let p = c.requires in row_shown a.f a.attributes.now a.row.now a.at a.self a.report p.2 p.0.narrow c.kept_marks-done.result c.ran_in-ran.result c.shown_row-shown.result c.kept_marks-done.ensures c.shown_row-shown.ensures c.ran_in-ran.ensures c.after-state.ensures (row_low (tick_on a.f a.attributes.now (λ q. get_or a.row.now q 0) a.at a.self a.report) (row_first a.row.now a.f.tasks a.f.processors p.2 c.first_high-q.ensures) (omega (arith, p.2, c.if-q-row.false)))
