@@ -1,5 +1,5 @@
 -- A plan's repetition is a play: what its steps lean on.
-use Rattle.std.specs.Prelude.{◌≡◌, refl, Bool, false, List, get_or, length}
+use Rattle.std.specs.Prelude.{◌≡◌, refl, Bool, false, List, get_or, length, Ok}
 use Rattle.std.proofs.Common.{sym, ◌∙◌, ⊎_elim, mod-lt, arith}
 use Rattle.std.proofs.Math.Path.{ap}
 use Prim.Native.Nat.{ℕ, zero, suc, ◌+◌, ◌*◌, ◌^◌, ◌≤◌, ◌<◌}

@@ -1,5 +1,5 @@
 -- The terms of demand 3.
-use Rattle.std.specs.Prelude.{◌≡◌, Bool, true, false, ◌&&◌, List, [], ◌∷◌, map, ℕ, suc, ◌+◌, ◌*◌, ◌^◌, ◌≤◌, ◌<◌, eqb, ltb, get_or, length}
+use Rattle.std.specs.Prelude.{◌≡◌, Bool, true, false, ◌&&◌, List, [], ◌∷◌, map, ℕ, suc, ◌+◌, ◌*◌, ◌^◌, ◌≤◌, ◌<◌, eqb, ltb, get_or, length, Ok}
 use Rattle.std.specs.Int.{◌∣◌}
 use Rattle.vocabulary.specs.Test.{pick}
 use Rattle.vocabulary.specs.Least.{some}
