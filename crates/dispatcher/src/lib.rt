@@ -66,10 +66,7 @@ fn lengths_fit(f: Counts, plan: usize, out: usize) -> bool
     ensures { result ≡ lengths_fit f.processors f.ticks plan out }
 {
     let m = wide(f.processors);
-    if plan != m * wide(f.ticks) {
-        return false;
-    }
-    out == m
+    plan == m * wide(f.ticks) && out == m
 }
 
 impl State {
@@ -106,13 +103,7 @@ impl State {
     fn is_impossible(self, h: u32, n: usize) -> bool
         ensures { result ≡ impossible (tasks_of n []) h self }
     {
-        if h <= self.tick {
-            return true;
-        }
-        if has_bit_from(self.done, n) {
-            return true;
-        }
-        has_bit_from(self.ran, n)
+        h <= self.tick || has_bit_from(self.done, n) || has_bit_from(self.ran, n)
     }
 
     // The state after a tick that left these marks.
