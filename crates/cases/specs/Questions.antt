@@ -26,7 +26,7 @@ use Rattle.screen.specs.Heads.{screened_of, adjusted_head, releases_kept, deadli
 use Rattle.network.specs.Times.{adjusted_deadline}
 use Rattle.screen.specs.Answers as screenAnswers
 use Rattle.dispatcher.specs.declared.State.{State}
-use Rattle.dispatcher.specs.declared.Answer.{Answer}
+use Rattle.dispatcher.specs.Answers.{Answer}
 use Rattle.dispatcher.specs.Refusals.{started_of, stepped_of, left_of}
 use Rattle.dispatcher.specs.Bytes.{bytes_of}
 use Rattle.dispatcher.specs.ForC.{start_for, step_for}

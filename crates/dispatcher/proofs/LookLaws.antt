@@ -2,7 +2,6 @@
 use mathlib.Core.Path.{◌≡◌, refl, sym, ap, ◌∙◌}
 use mathlib.Core.Bool.{Bool, true, false, ◌&&◌, ◌||◌, not}
 use mathlib.Core.List.{List, []}
-use mathlib.Core.Logic.{◌⊎◌, inl, inr}
 use Prim.Native.Nat.{ℕ, ◌+◌, ◌-◌, ◌*◌, ◌<◌, ◌≤◌}
 use native.Mathlib.Nat.{mul-le-mul, mul_comm, le_refl, le_of_dvd, lt_of_lt_of_le}
 use native.Mathlib.Omega.{arith}
@@ -10,10 +9,10 @@ use lib.Dec.{eqb, ltb, leb}
 use lib.ListN.{get_or, length, take, drop}
 use Rattle.vocabulary.proofs.Prefix.{part_length, part_entry}
 use borrow.Author.Tests.{le-leb, lt-leb, leb-false, eq-eqb, ne_eqb, eqb-true}
+use Rattle.std.specs.Prelude.{Ok, Err, is_ok}
 use Rattle.vocabulary.specs.Test.{pick}
-use Rattle.vocabulary.proofs.Test.{both}
-use Rattle.vocabulary.specs.Least.{least}
-use Rattle.vocabulary.proofs.Least.{least_is, least_same, some_same}
+use Rattle.vocabulary.proofs.Test.{clash, both}
+use Rattle.vocabulary.proofs.Least.{least_same, some_same}
 use Rattle.vocabulary.specs.First.{first_of, from}
 use Rattle.vocabulary.specs.Table.{table}
 use Rattle.vocabulary.proofs.Table.{get_or_table, is_table}
@@ -35,18 +34,17 @@ use Rattle.judge.specs.Judgement.{rules, verdict_of}
 use Rattle.judge.specs.Heads.{judged_of}
 use Rattle.dispatcher.specs.declared.State.{State}
 use Rattle.dispatcher.specs.declared.Started.{Started}
-use Rattle.dispatcher.specs.declared.Answer.{Answer}
-use Rattle.dispatcher.specs.declared.Answer.TheVariants as answer
-use Rattle.dispatcher.specs.declared.Stepped.{Stepped}
-use Rattle.dispatcher.specs.declared.Look.{Look}
-use Rattle.dispatcher.specs.Answers.{number_of}
+use Rattle.dispatcher.specs.declared.StepError.{StepError}
+use Rattle.dispatcher.specs.declared.StepError.TheVariants as error
+use Rattle.dispatcher.specs.declared.Shown.{Shown}
+use Rattle.dispatcher.specs.Answers.{Answer}
 use Rattle.dispatcher.specs.Steps.{OneTick, done_of, byte_of, row_of, ran_of, after_of, step_of}
-use Rattle.dispatcher.specs.Refusals.{first_state, on_verdict, started_of, impossible, overreports, high_slot, is_high, high_place, step_rules, answer_by, if_shown, is_shown, row_at, tick_of, lengths_fit, answer_of, stepped, stepped_of, left_of}
+use Rattle.dispatcher.specs.Refusals.{first_state, on_verdict, started_of, impossible, overreports, high_slot, is_high, high_place, step_rules, answer_by, if_shown, row_at, tick_of, lengths_fit, answer_of, stepped, stepped_of, left_of}
 use Rattle.dispatcher.specs.Outcome.{StepOutcome, written_of, written_is}
-use Rattle.dispatcher.specs.Bytes.{bytes_of, state_of, unclear}
+use Rattle.dispatcher.specs.Bytes.{state_of, unclear}
 use Rattle.dispatcher.specs.ForC.{start_leaves, start_rules, start_verdict, first_bytes, start_for, step_leaves, lengths_for_c, impossible_for_c, tick_in, answer_in, step_for}
-use Rattle.dispatcher.proofs.StepFacts.{shown_kept, lengths_right, when_shown, when_refused, shown_or_not}
-use Rattle.dispatcher.specs.Looks.{eight, look, look_by, look_from, look_of, look_in, look_for, shown_in, stepped_by, left_by, written_by, part_of, tick_on, tick_for, Steppable, look_in_bytes}
+use Rattle.dispatcher.proofs.StepFacts.{shown_kept, lengths_right}
+use Rattle.dispatcher.specs.Looks.{Look, eight, shown_by, look_by, look_from, look_of, look_in, look_for, part_of, tick_on, tick_for, Steppable, look_in_bytes}
 use Rattle.dispatcher.proofs.RowLaws.{table_same, length_row}
 
 -- ---- a part of a plan
@@ -71,20 +69,20 @@ module _ (xs : List ℕ) (at m : ℕ) (within : at + m ≤ length xs) where
 
 -- ---- the chain's ways out
 module _ (right fits bad : Bool) (k : OneTick) where
-  pub look_10 : right ≡ false → look answer.BadSet first_state [] ≡ look_from 10 right fits bad k
-  unfolding look_from look_by step_rules from first_of if_shown
+  pub look_10 : right ≡ false → Err error.BadSet ≡ look_from 10 right fits bad k
+  unfolding look_from look_by step_rules from first_of
   look_10 e = rw e
 
-  pub look_11 : fits ≡ false → look answer.WrongLength first_state [] ≡ look_from 11 right fits bad k
-  unfolding look_from look_by step_rules from first_of if_shown
+  pub look_11 : fits ≡ false → Err error.WrongLength ≡ look_from 11 right fits bad k
+  unfolding look_from look_by step_rules from first_of
   look_11 e = rw e
 
-  pub look_30 : bad ≡ true → look answer.BadState first_state [] ≡ look_from 30 right fits bad k
-  unfolding look_from look_by step_rules from first_of if_shown
+  pub look_30 : bad ≡ true → Err error.BadState ≡ look_from 30 right fits bad k
+  unfolding look_from look_by step_rules from first_of
   look_30 e = rw e
 
-  pub look_31 : bad ≡ false → overreports k.tasks k.report ≡ true → look answer.BadReport first_state [] ≡ look_from 30 right fits bad k
-  unfolding look_from look_by step_rules from first_of if_shown
+  pub look_31 : bad ≡ false → overreports k.tasks k.report ≡ true → Err error.BadReport ≡ look_from 30 right fits bad k
+  unfolding look_from look_by step_rules from first_of
   look_31 d e = rw (d, e)
 
   pub past_10 : right ≡ true → look_from 11 right fits bad k ≡ look_from 10 right fits bad k
@@ -96,30 +94,26 @@ module _ (right fits bad : Bool) (k : OneTick) where
   past_11 e = rw e
 
   -- from rule 30 on, where 30 and 31 are kept
-  shown_30 : bad ≡ false → overreports k.tasks k.report ≡ false → is_high k ≡ false → look_from 30 right fits bad k ≡ look_by answer.Shown k
-  unfolding look_from step_rules from first_of
+  shown_30 : bad ≡ false → overreports k.tasks k.report ≡ false → is_high k ≡ false → look_from 30 right fits bad k ≡ Ok (shown_by k)
+  unfolding look_from look_by step_rules from first_of
   shown_30 d e h = rw (d, e, h)
 
-  slot_30 : bad ≡ false → overreports k.tasks k.report ≡ false → is_high k ≡ true → look (answer.BadSlot (high_place k)) first_state [] ≡ look_from 30 right fits bad k
-  unfolding look_from look_by step_rules from first_of if_shown
+  slot_30 : bad ≡ false → overreports k.tasks k.report ≡ false → is_high k ≡ true → look_from 30 right fits bad k ≡ Err (error.BadSlot (high_place k))
+  unfolding look_from look_by step_rules from first_of
   slot_30 d e h = rw (d, e, h)
 
-  shown_12 : is_high k ≡ false → look_from 12 right fits bad k ≡ look_by answer.Shown k
-  unfolding look_from step_rules from first_of
+  shown_12 : is_high k ≡ false → look_from 12 right fits bad k ≡ Ok (shown_by k)
+  unfolding look_from look_by step_rules from first_of
   shown_12 h = rw h
 
-  slot_12 : is_high k ≡ true → (look_from 12 right fits bad k).answer ≡ answer.BadSlot (high_place k)
+  slot_12 : is_high k ≡ true → look_from 12 right fits bad k ≡ Err (error.BadSlot (high_place k))
   unfolding look_from look_by step_rules from first_of
   slot_12 h = rw h
-
-answer_by_lem : (a : Answer) (k : OneTick) → (look_by a k).answer ≡ a
-unfolding look_by
-answer_by_lem a k = refl
 
 -- ---- a row that is a part of the plan
 module _ (f : Counts) (xs : List ℕ) (g g' : ℕ → ℕ) (at : ℕ) (s : State) (report : ℕ) (same : (q : ℕ) → q < f.processors → g q ≡ g' q) where
   abbrev alone : OneTick
-  alone = tick_on f xs g 0 s report
+  alone = tick_on f xs g at s report
 
   abbrev placed : OneTick
   placed = tick_on f xs g' at s report
@@ -142,56 +136,27 @@ module _ (f : Counts) (xs : List ℕ) (g g' : ℕ → ℕ) (at : ℕ) (s : State
   unfolding is_high
   is_high_same = some_same (high_slot f.tasks g) (high_slot f.tasks g') f.processors high_same
 
-  lowest : ℕ
-  lowest = least (high_slot f.tasks g) f.processors
+  place_same : high_place alone ≡ high_place placed
+  unfolding high_place
+  place_same = ap (λ (x : ℕ). at + x) (least_same (high_slot f.tasks g) (high_slot f.tasks g') f.processors high_same)
 
-  place_alone : high_place alone ≡ lowest
-  unfolding high_place lowest
-  place_alone = omega arith
-
-  place_placed : high_place placed ≡ at + lowest
-  unfolding high_place lowest
-  place_placed = ap (λ (x : ℕ). at + x) (sym (least_same (high_slot f.tasks g) (high_slot f.tasks g') f.processors high_same))
-
-  shown_same : look_by answer.Shown alone ≡ look_by answer.Shown placed
-  unfolding look_by if_shown
+  shown_same : shown_by alone ≡ shown_by placed
   shown_same = rw (step_same, rows_same)
 
-  module _ {l : Look} (e : l ≡ look_from 12 true true false alone) where
-    -- a slot that 12 names is one of the row's
-    slot_found : {q : ℕ} → l.answer ≡ answer.BadSlot q → (is_high placed ≡ true) × (q ≡ lowest)
-    slot_found {q} a = by (is_high alone) refl
-      where
-        by : (b : Bool) → is_high alone ≡ b → (is_high placed ≡ true) × (q ≡ lowest)
-        by true h =
-            let p : answer.BadSlot (high_place alone) ≡ answer.BadSlot q = sym (slot_12 true true false alone h) ∙ ap (λ (x : Look). x.answer) (sym e) ∙ a in
-            let z : high_place alone ≡ q = cc p in
-            (sym is_high_same ∙ h, sym z ∙ place_alone)
-        by false h = absurd (shown_is_no_slot (sym (answer_12 h) ∙ ap (λ (x : Look). x.answer) (sym e) ∙ a))
-          where
-            shown_is_no_slot : answer.Shown ≡ answer.BadSlot q → ⊥
-            shown_is_no_slot p = omega (arith, ap number_of p)
-
-            answer_12 : is_high alone ≡ false → (look_from 12 true true false alone).answer ≡ answer.Shown
-            answer_12 h = ap (λ (x : Look). x.answer) (shown_12 true true false alone h) ∙ answer_by_lem answer.Shown alone
-
-    pub slot_low : {q : ℕ} → l.answer ≡ answer.BadSlot q → q ≤ f.processors
-    unfolding lowest
-    slot_low a = omega (arith, (slot_found a).1, (least_is (high_slot f.tasks g) f.processors).within)
-
-    module _ {bad : Bool} (possible : bad ≡ false) (reported : overreports (tasks_of f.tasks xs) report ≡ false) where
-      pub slot_placed : {q : ℕ} → l.answer ≡ answer.BadSlot q → look (answer.BadSlot (at + q)) first_state [] ≡ look_from 30 true true bad placed
-      slot_placed {q} a =
-          let w = slot_found a in
-          ap (λ (x : ℕ). look (answer.BadSlot x) first_state []) (ap (λ (x : ℕ). at + x) w.1 ∙ sym place_placed)
-          ∙ slot_30 true true bad placed possible reported w.0
-
-      pub row_placed : ((q : ℕ) → l.answer ≡ answer.BadSlot q → ⊥) → l ≡ look_from 30 true true bad placed
-      row_placed n = by (is_high alone) refl
-        where
-          by : (b : Bool) → is_high alone ≡ b → l ≡ look_from 30 true true bad placed
-          by true h = absurd (n (high_place alone) (ap (λ (x : Look). x.answer) e ∙ slot_12 true true false alone h))
-          by false h = e ∙ shown_12 true true false alone h ∙ shown_same ∙ sym (shown_30 true true bad placed possible reported (sym is_high_same ∙ h))
+  -- the look from rule 12 on is the look from rule 30 on, where 30 and 31 are kept
+  pub row_placed : {bad : Bool} → bad ≡ false → overreports (tasks_of f.tasks xs) report ≡ false
+      → look_from 12 true true false alone ≡ look_from 30 true true bad placed
+  row_placed {bad} possible reported = by (is_high alone) refl
+    where
+      by : (b : Bool) → is_high alone ≡ b → look_from 12 true true false alone ≡ look_from 30 true true bad placed
+      by true h =
+          slot_12 true true false alone h
+          ∙ ap (λ (x : ℕ). Err (error.BadSlot x)) place_same
+          ∙ sym (slot_30 true true bad placed possible reported (sym is_high_same ∙ h))
+      by false h =
+          shown_12 true true false alone h
+          ∙ ap (λ (w : Shown). Ok w) shown_same
+          ∙ sym (shown_30 true true bad placed possible reported (sym is_high_same ∙ h))
 
 -- ---- the tick's slots are in the plan
 pub record InPlan (f : Counts) (t at m : ℕ) (slots : List ℕ) : Type 0 where
@@ -227,21 +192,15 @@ module _ (f : Counts) (xs slots : List ℕ) {m w : ℕ} (s : State) (report : �
   pub lent_long : length row ≡ f.processors
   lent_long = part_long slots (w * m) m within part ∙ em
 
-  module _ {l : Look} (e : l ≡ look_from 12 true true false (tick_on f xs (λ q. get_or row q 0) 0 s report)) where
-    abbrev at : ℕ
-    at = s.tick * f.processors
-
-    pub lent_low : {q : ℕ} → l.answer ≡ answer.BadSlot q → q ≤ f.processors
-    lent_low a = slot_low f xs (λ q. get_or row q 0) (row_at slots at) at s report lent e a
-
-    module _ {bad : Bool} (possible : bad ≡ false) (reported : overreports (tasks_of f.tasks xs) report ≡ false) where
-      pub lent_slot : {q : ℕ} → l.answer ≡ answer.BadSlot q → look (answer.BadSlot (w * m + q)) first_state [] ≡ look_from 30 true true bad (tick_for f xs slots s report)
-      lent_slot {q} a =
-          ap (λ (x : ℕ). look (answer.BadSlot (x + q)) first_state []) place_is
-          ∙ slot_placed f xs (λ q. get_or row q 0) (row_at slots at) at s report lent e possible reported a
-
-      pub lent_shown : ((q : ℕ) → l.answer ≡ answer.BadSlot q → ⊥) → l ≡ look_from 30 true true bad (tick_for f xs slots s report)
-      lent_shown n = row_placed f xs (λ q. get_or row q 0) (row_at slots at) at s report lent e possible reported n
+  pub lent_look : {l : Look} {bad : Bool} → l ≡ look_from 12 true true false (tick_on f xs (λ q. get_or row q 0) (w * m) s report)
+      → bad ≡ false
+      → overreports (tasks_of f.tasks xs) report ≡ false
+      → l ≡ look_from 30 true true bad (tick_for f xs slots s report)
+  lent_look e possible reported =
+      let at : ℕ = s.tick * f.processors in
+      e
+      ∙ ap (λ (x : ℕ). look_from 12 true true false (tick_on f xs (λ q. get_or row q 0) x s report)) place_is
+      ∙ row_placed f xs (λ q. get_or row q 0) (row_at slots at) at s report lent possible reported
 
 -- ---- lengths
 pub low_product : (p t : ℕ) {m h : ℕ} → p ≤ 8 → t ≤ 6000 → m ≡ p → h ≡ t → m * h ≤ 48000
@@ -264,12 +223,12 @@ module _ (f : Counts) (xs slots : List ℕ) (report : ℕ) (b : List ℕ) (room 
   abbrev at_bytes : OneTick
   at_bytes = tick_for f xs slots (state_of b) report
 
-  pub wrong_lengths : lengths_fit f.processors f.ticks (length slots) room ≡ false → look answer.WrongLength first_state [] ≡ look_in_bytes f xs slots report b room
+  pub wrong_lengths : lengths_fit f.processors f.ticks (length slots) room ≡ false → Err error.WrongLength ≡ look_in_bytes f xs slots report b room
   unfolding look_in_bytes
   wrong_lengths e = look_11 true _ _ at_bytes (rw e)
 
   module _ (fit : lengths_fit f.processors f.ticks (length slots) room ≡ true) where
-    pub wrong_bytes : (length b ≡ 21 → ⊥) → look answer.WrongLength first_state [] ≡ look_in_bytes f xs slots report b room
+    pub wrong_bytes : (length b ≡ 21 → ⊥) → Err error.WrongLength ≡ look_in_bytes f xs slots report b room
     unfolding look_in_bytes
     wrong_bytes n = look_11 true _ _ at_bytes (rw (fit, ne_eqb (length b) 21 n))
 
@@ -277,7 +236,7 @@ module _ (f : Counts) (xs slots : List ℕ) (report : ℕ) (b : List ℕ) (room 
       right : (lengths_fit f.processors f.ticks (length slots) room && eqb (length b) 21) ≡ true
       right = rw (fit, eq-eqb (length b) 21 bytes)
 
-      pub unclear_bytes : unclear b ≡ true → look answer.BadState first_state [] ≡ look_in_bytes f xs slots report b room
+      pub unclear_bytes : unclear b ≡ true → Err error.BadState ≡ look_in_bytes f xs slots report b room
       unfolding look_in_bytes
       unclear_bytes e = look_30 true _ _ at_bytes (rw e) ∙ past_11 true _ _ at_bytes right
 
@@ -322,7 +281,7 @@ module _ (s : Set) {f : Counts} (found : CountsFound s f) where
     lengths_same : lengths_fit f.processors f.ticks (length slots) room ≡ lengths_fit s.processors (cycle s.tasks) (length slots) room
     lengths_same = by_counts (λ n m h. lengths_fit m h (length slots) room)
 
-    pub set_11 : lengths_fit f.processors f.ticks (length slots) room ≡ false → look answer.WrongLength first_state [] ≡ look_of s slots state report room
+    pub set_11 : lengths_fit f.processors f.ticks (length slots) room ≡ false → Err error.WrongLength ≡ look_of s slots state report room
     unfolding look_of
     set_11 d =
         look_11 (sound s) _ _ (tick_of s slots state report) (sym lengths_same ∙ d) ∙ past_10 (sound s) _ _ (tick_of s slots state report) found.is_sound
@@ -352,7 +311,7 @@ module _ (s : Set) {f : Counts} (found : CountsFound s f) where
         (tick_with slots (state_of b) report room n m h))
         ∙ past_10 true (lengths_for_c s slots b room) (impossible_for_c s b) (tick_of s slots (state_of b) report) refl
 
-pub set_10 : (s : Set) (slots : List ℕ) (state : State) (report room : ℕ) → sound s ≡ false → look answer.BadSet first_state [] ≡ look_of s slots state report room
+pub set_10 : (s : Set) (slots : List ℕ) (state : State) (report room : ℕ) → sound s ≡ false → Err error.BadSet ≡ look_of s slots state report room
 unfolding look_of
 set_10 s slots state report room e = look_10 (sound s) _ _ (tick_of s slots state report) e
 
@@ -362,7 +321,7 @@ module _ (tasks t : List ℕ) (v : PatternTables) {f : Counts} (read : whole_rea
   head_timed z = timed_of (view (set_of f t v)) (whole_found tasks t v read z)
 
   module _ (slots : List ℕ) (report : ℕ) (b : List ℕ) (room : ℕ) where
-    pub no_head : f.ticks ≡ 0 → look answer.BadSet first_state [] ≡ look_for tasks slots report b room
+    pub no_head : f.ticks ≡ 0 → Err error.BadSet ≡ look_for tasks slots report b room
     unfolding look_for look_in
     no_head z =
         look_10 (taken_of tasks).fits _ _ (tick_in (taken_of tasks) slots report b) (ap (λ (x : Taking). x.fits) (whole_none tasks t v read z))
@@ -373,114 +332,69 @@ module _ (tasks t : List ℕ) (v : PatternTables) {f : Counts} (read : whole_rea
         bytes_look (view (set_of f t v)) (whole_found tasks t v read z) slots report b room g
         ∙ ap (λ (x : Taking). look_in x slots report b room) (sym (whole_some tasks t v read z).taken)
 
--- ---- what is written by a look
+-- ---- what a step leaves
 -- a row that fits eight bytes comes out of them again
-row_out : (bytes : List ℕ) (m : ℕ) → length bytes ≡ m → m ≤ 8 → shown_in (eight bytes) m ≡ bytes
-unfolding shown_in eight
+row_out : (bytes : List ℕ) (m : ℕ) → length bytes ≡ m → m ≤ 8 → table (λ q. get_or (eight bytes) q 0) m ≡ bytes
+unfolding eight
 row_out bytes m e l =
     table_same (λ q. get_or (table (λ i. get_or bytes i 0) 8) q 0) (λ q. get_or bytes q 0) m (λ q h. get_or_table (λ i. get_or bytes i 0) 8 q 0 (omega arith))
     ∙ sym (is_table (λ q. get_or bytes q 0) m 0 bytes e (λ i h. refl))
 
-module _ (a : Answer) (k : OneTick) (n : ℕ) (fit : a ≡ answer.Shown → (n ≡ k.processors) × (k.processors ≤ 8)) where
-  -- what is left in an output of n bytes
-  left_by_lem : (out : List ℕ) → length out ≡ n → left_by (look_by a k) out ≡ if_shown a (row_of k) out
-  unfolding left_by look_by
-  left_by_lem out e = go (shown_or_not a)
+-- a look is that of an answer on a tick
+module _ (a : Answer) (k : OneTick) where
+  took : {w : Shown} → Ok w ≡ look_by a k → (a ≡ Ok tt) × (w ≡ shown_by k)
+  unfolding look_by
+  took e = by a e
     where
-      go : (a ≡ answer.Shown) ⊎ (is_shown a ≡ false) → if_shown a (shown_in (eight (if_shown a (row_of k) [])) (length out)) out ≡ if_shown a (row_of k) out
-      go (inl s) =
-          when_shown a (shown_in (eight (if_shown a (row_of k) [])) (length out)) out s
-          ∙ ap (λ (x : List ℕ). shown_in (eight x) (length out)) (when_shown a (row_of k) [] s)
-          ∙ ap (shown_in (eight (row_of k))) (e ∙ (fit s).0)
-          ∙ row_out (row_of k) k.processors (length_row k) (fit s).1
-          ∙ sym (when_shown a (row_of k) out s)
-      go (inr s) = when_refused a (shown_in (eight (if_shown a (row_of k) [])) (length out)) out s ∙ sym (when_refused a (row_of k) out s)
+      by : (b : Answer) {w : Shown} → Ok w ≡ look_by b k → (b ≡ Ok tt) × (w ≡ shown_by k)
+      by (Ok taken) e = (refl, cc e)
+      by (Err r) e = clash refl (ap is_ok e)
 
--- a blank state is never handed back
-state_by : {A : Type 0} (a : Answer) (k : OneTick) (F : State → A) (old : A) → if_shown a (F (if_shown a (step_of k) first_state)) old ≡ if_shown a (F (step_of k)) old
-state_by a k F old = go (shown_or_not a)
-  where
-    go : (a ≡ answer.Shown) ⊎ (is_shown a ≡ false) → if_shown a (F (if_shown a (step_of k) first_state)) old ≡ if_shown a (F (step_of k)) old
-    go (inl s) = ap (λ (x : State). if_shown a (F x) old) (when_shown a (step_of k) first_state s)
-    go (inr s) = when_refused a (F (if_shown a (step_of k) first_state)) old s ∙ sym (when_refused a (F (step_of k)) old s)
-
-module _ (l : Look) where
-  pub shown_by_lem : (old : State) (out : List ℕ) {out' : List ℕ} → l.answer ≡ answer.Shown → out' ≡ table (λ q. get_or l.row q 0) (length out)
-      → (stepped l.answer l.state ≡ stepped_by l old) × (out' ≡ left_by l out)
-  unfolding stepped_by left_by if_shown shown_in
-  shown_by_lem old out e g = (rw e, g ∙ rw e)
-
-  pub refused_by_lem : (old : State) (out : List ℕ) → is_shown l.answer ≡ false → (stepped l.answer old ≡ stepped_by l old) × (out ≡ left_by l out)
-  unfolding stepped_by left_by
-  refused_by_lem old out e = (ap (stepped l.answer) (sym (when_refused l.answer l.state old e)), sym (when_refused l.answer (shown_in l.row (length out)) out e))
-
-  pub written_by_lem : (b out : List ℕ) {b' out' : List ℕ} → l.answer ≡ answer.Shown → b' ≡ written_of l.state b → out' ≡ table (λ q. get_or l.row q 0) (length out)
-      → step_leaves l.answer b' out' ≡ written_by l b out
-  unfolding written_by left_by if_shown shown_in
-  written_by_lem b out e f g = rw (f, g, e)
-
-  pub unwritten_by : (b out : List ℕ) → is_shown l.answer ≡ false → step_leaves l.answer b out ≡ written_by l b out
-  unfolding written_by left_by
-  unwritten_by b out e = rw (when_refused l.answer (written_of l.state b) b e, when_refused l.answer (shown_in l.row (length out)) out e)
+  turned : {r : StepError} → Err r ≡ look_by a k → a ≡ Err r
+  unfolding look_by
+  turned e = by a e
+    where
+      by : (b : Answer) {r : StepError} → Err r ≡ look_by b k → b ≡ Err r
+      by (Ok taken) e = clash refl (sym (ap is_ok e))
+      by (Err x) {r} e = let z : x ≡ r = cc e in ap (λ (y : StepError). Err y) z
 
 -- ---- a step by value
-module _ (s : Set) (slots : List ℕ) (state : State) (report room : ℕ) where
-  look_is : look_of s slots state report room ≡ look_by (answer_of s slots state report room) (tick_of s slots state report)
-  unfolding look_of look_from answer_of answer_by step_rules from
-  look_is = refl
-
-  room_is : answer_of s slots state report room ≡ answer.Shown → (room ≡ s.processors) × (s.processors ≤ 8)
-  unfolding answer_of
-  room_is e =
-      let w = shown_kept _ _ _ (tick_of s slots state report) e in
-      ((lengths_right _ _ _ _ w.lengths).1, (sound_facts s w.sound).few_processors)
-
-  pub room_for : {l : Look} → l ≡ look_of s slots state report room → l.answer ≡ answer.Shown → room ≤ 8
-  room_for e a =
-      let w = room_is (sym (ap (λ (x : Look). x.answer) (e ∙ look_is) ∙ answer_by_lem _ (tick_of s slots state report)) ∙ a) in
-      omega (arith, w.0, w.1)
-
 module _ (s : Set) (slots : List ℕ) (state : State) (report : ℕ) (out : List ℕ) where
   abbrev here : OneTick
   here = tick_of s slots state report
 
-  stepped_by_lem : stepped_by (look_by (answer_of s slots state report (length out)) here) state ≡ stepped_of s slots state report out
-  unfolding stepped_by look_by stepped_of
-  stepped_by_lem = ap (stepped (answer_of s slots state report (length out))) (state_by (answer_of s slots state report (length out)) here (λ x. x) state)
+  abbrev answered : Answer
+  answered = answer_of s slots state report (length out)
 
-  pub outcome_by : {l : Look} {r : Stepped} {out' : List ℕ} → l ≡ look_of s slots state report (length out) → r ≡ stepped_by l state → out' ≡ left_by l out
-      → StepOutcome s slots state report out r out'
-  unfolding stepped_of left_of
-  outcome_by e f g =
-      record {
-        answer = f ∙ ap (λ (x : Look). stepped_by x state) (e ∙ look_is s slots state report (length out)) ∙ stepped_by_lem;
-        left = g ∙ ap (λ (x : Look). left_by x out) (e ∙ look_is s slots state report (length out)) ∙ left_by_lem (answer_of s slots state report (length out)) here (length out) (room_is s slots state report (length out)) out refl;
-      }
+  look_is : look_of s slots state report (length out) ≡ look_by answered here
+  unfolding look_of look_from answer_of answer_by step_rules from
+  look_is = refl
+
+  room_is : answered ≡ Ok tt → (length out ≡ s.processors) × (s.processors ≤ 8)
+  unfolding answer_of
+  room_is e =
+      let w = shown_kept _ _ _ here e in
+      ((lengths_right _ _ _ _ w.lengths).1, (sound_facts s w.sound).few_processors)
+
+  module _ {w : Shown} (e : Ok w ≡ look_of s slots state report (length out)) where
+    pub room_for : length out ≤ 8
+    room_for = let r = room_is (took answered here (e ∙ look_is)).0 in omega (arith, r.0, r.1)
+
+    pub outcome_shown : {out' : List ℕ} → out' ≡ table (λ q. get_or w.row q 0) (length out) → StepOutcome s slots state report out (stepped (Ok tt) w.state) out'
+    unfolding stepped_of left_of if_shown
+    outcome_shown g =
+        let t = took answered here (e ∙ look_is) in
+        let r = room_is t.0 in
+        record {
+          answer = rw (t.0, t.1);
+          left = g ∙ rw (t.0, t.1) (row_out (row_of here) (length out) (length_row here ∙ sym r.0) (omega (arith, r.0, r.1)));
+        }
+
+  pub outcome_refused : {r : StepError} → Err r ≡ look_of s slots state report (length out) → StepOutcome s slots state report out (stepped (Err r) state) out
+  unfolding stepped_of left_of if_shown
+  outcome_refused e = let t = turned answered here (e ∙ look_is) in record { answer = rw t; left = rw t }
 
 -- ---- a step for C
-module _ (tasks slots : List ℕ) (report : ℕ) (b : List ℕ) (room : ℕ) where
-  abbrev taken : Taking
-  taken = taken_of tasks
-
-  abbrev there : OneTick
-  there = tick_in taken slots report b
-
-  look_for_lem : look_for tasks slots report b room ≡ look_by (answer_in taken slots report b room) there
-  unfolding look_for look_in look_from answer_in answer_by step_rules from
-  look_for_lem = refl
-
-  room_in_lem : answer_in taken slots report b room ≡ answer.Shown → (length b ≡ 21) × (room ≡ there.processors) × (there.processors ≤ 8)
-  unfolding answer_in
-  room_in_lem e =
-      let w = shown_kept _ _ _ there e in
-      let l = both {a = lengths_fit there.processors there.cycle (length slots) room} w.lengths in
-      (eqb-true (length b) 21 l.1, (lengths_right _ _ _ _ l.0).1, (sound_facts (view taken.set) (taken_sound tasks w.sound)).few_processors)
-
-  pub room_in_c : {l : Look} → l ≡ look_for tasks slots report b room → l.answer ≡ answer.Shown → room ≤ 8
-  room_in_c e a =
-      let w = room_in_lem (sym (ap (λ (x : Look). x.answer) (e ∙ look_for_lem) ∙ answer_by_lem _ there) ∙ a) in
-      omega (arith, w.1, w.2)
-
 module _ (tasks slots : List ℕ) (report : ℕ) (b out : List ℕ) where
   abbrev told : OneTick
   told = tick_in (taken_of tasks) slots report b
@@ -488,23 +402,32 @@ module _ (tasks slots : List ℕ) (report : ℕ) (b out : List ℕ) where
   abbrev said : Answer
   said = answer_in (taken_of tasks) slots report b (length out)
 
-  fits : said ≡ answer.Shown → (length b ≡ 21) × (length out ≡ told.processors) × (told.processors ≤ 8)
-  fits = room_in_lem tasks slots report b (length out)
+  look_for_lem : look_for tasks slots report b (length out) ≡ look_by said told
+  unfolding look_for look_in look_from answer_in answer_by step_rules from
+  look_for_lem = refl
 
-  bytes_by : if_shown said (written_of (if_shown said (step_of told) first_state) b) b ≡ if_shown said (bytes_of (step_of told)) b
-  bytes_by = state_by said told (λ x. written_of x b) b ∙ go (shown_or_not said)
-    where
-      go : (said ≡ answer.Shown) ⊎ (is_shown said ≡ false) → if_shown said (written_of (step_of told) b) b ≡ if_shown said (bytes_of (step_of told)) b
-      go (inl s) = ap (λ (x : List ℕ). if_shown said x b) (written_is (step_of told) b (fits s).0)
-      go (inr s) = when_refused said (written_of (step_of told) b) b s ∙ sym (when_refused said (bytes_of (step_of told)) b s)
+  room_in_lem : said ≡ Ok tt → (length b ≡ 21) × (length out ≡ told.processors) × (told.processors ≤ 8)
+  unfolding answer_in
+  room_in_lem e =
+      let w = shown_kept _ _ _ told e in
+      let l = both {a = lengths_fit told.processors told.cycle (length slots) (length out)} w.lengths in
+      (eqb-true (length b) 21 l.1, (lengths_right _ _ _ _ l.0).1, (sound_facts (view (taken_of tasks).set) (taken_sound tasks w.sound)).few_processors)
 
-  pub step_by : {l : Look} {a : Answer} {b' out' : List ℕ} → l ≡ look_for tasks slots report b (length out) → step_leaves a b' out' ≡ written_by l b out
-      → step_leaves a b' out' ≡ step_for tasks slots report b out
-  unfolding step_for written_by look_by
-  step_by e g =
-      g
-      ∙ ap (λ (x : Look). written_by x b out) (e ∙ look_for_lem tasks slots report b (length out))
-      ∙ rw (bytes_by, left_by_lem said told (length out) (λ s. ((fits s).1, (fits s).2)) out refl)
+  module _ {w : Shown} (e : Ok w ≡ look_for tasks slots report b (length out)) where
+    pub room_in_c : length out ≤ 8
+    room_in_c = let r = room_in_lem (took said told (e ∙ look_for_lem)).0 in omega (arith, r.1, r.2)
+
+    pub step_shown : {b' out' : List ℕ} → b' ≡ written_of w.state b → out' ≡ table (λ q. get_or w.row q 0) (length out)
+        → step_leaves (Ok tt) b' out' ≡ step_for tasks slots report b out
+    unfolding step_for if_shown
+    step_shown f g =
+        let t = took said told (e ∙ look_for_lem) in
+        let r = room_in_lem t.0 in
+        rw (t.0, f, g, t.1, written_is (step_of told) b r.0, row_out (row_of told) (length out) (length_row told ∙ sym r.1) (let z : length out ≤ 8 = omega (arith, r.1, r.2) in z))
+
+  pub step_refused : {r : StepError} → Err r ≡ look_for tasks slots report b (length out) → step_leaves (Err r) b out ≡ step_for tasks slots report b out
+  unfolding step_for if_shown
+  step_refused e = rw (turned said told (e ∙ look_for_lem))
 
 -- ---- starting
 pub started_by : (s : Set) (slots : List ℕ) (state : State) {v : Verdict} {r : Started} → v ≡ verdict_of s slots → r ≡ record { verdict = v; state = on_verdict v first_state state } → r ≡ started_of s slots state

@@ -2,7 +2,7 @@
 use Rattle.std.specs.Prelude.{Option, Some, None}
 use mathlib.Core.Path.{◌≡◌, sym, ap, ◌∙◌, fun_ext}
 use mathlib.Core.Bool.{Bool, true, false, ◌&&◌, ◌||◌, not}
-use mathlib.Core.List.{List, []}
+use mathlib.Core.List.{List}
 use mathlib.Core.Logic.{◌⊎◌, inl, inr}
 use Prim.Native.Nat.{ℕ, ◌+◌, ◌-◌, ◌^◌, ◌<◌, ◌≤◌}
 use native.Mathlib.Nat.{lt_of_lt_of_le}
@@ -12,6 +12,7 @@ use lib.Dec.{eqb, leb}
 use lib.ListN.{get_or, length, get_or-eq_default}
 use lib.Pow.{pow_mono}
 use borrow.Author.Tests.{lt-leb, ltb-false, eqb-true}
+use Rattle.std.specs.Prelude.{Ok, Err}
 use Rattle.vocabulary.specs.Test.{pick}
 use Rattle.vocabulary.proofs.Test.{lt_or_le, same_test}
 use Rattle.vocabulary.specs.Least.{least, some, lowest}
@@ -25,11 +26,10 @@ use Rattle.kinds.specs.Tasks.{Tasks, tasks_of}
 use Rattle.kinds.specs.declared.Counts.{Counts}
 use Rattle.slots.specs.High.{high}
 use Rattle.dispatcher.specs.declared.State.{State}
-use Rattle.dispatcher.specs.declared.Answer.TheVariants as answer
-use Rattle.dispatcher.specs.declared.Look.{Look}
+use Rattle.dispatcher.specs.declared.StepError.TheVariants as error
 use Rattle.dispatcher.specs.Steps.{OneTick, releases, heard, done_at, done_of, asleep, byte_of, row_of, stands_at, in_row, ran_of, after_of, step_of}
-use Rattle.dispatcher.specs.Refusals.{first_state, high_slot, is_high, high_place, step_rules, if_shown}
-use Rattle.dispatcher.specs.Looks.{eight, look, look_by, look_from, tick_on, keeps}
+use Rattle.dispatcher.specs.Refusals.{high_slot, is_high, high_place, step_rules}
+use Rattle.dispatcher.specs.Looks.{Look, eight, look_by, look_from, tick_on, keeps}
 
 -- ---- leaves
 pub over_none : (x n : ℕ) → x < 2 ^ 64 → 64 ≤ n → false ≡ leb (2 ^ n) x
@@ -69,13 +69,11 @@ unfolding high high_slot
 row_first row n m e h = h ∙ ap (lowest (high_slot n (λ k. get_or row k 0))) e
 
 module _ (k : OneTick) where
-  pub row_refused : {q : ℕ} → k.place ≡ 0 → Some q ≡ lowest (high_slot k.tasks.count k.row) k.processors
-      → look (answer.BadSlot q) first_state [] ≡ look_from 12 true true false k
-  unfolding look_from look_by step_rules from first_of if_shown is_high high_place
-  row_refused {q} p found =
+  pub row_refused : {q : ℕ} → Some q ≡ lowest (high_slot k.tasks.count k.row) k.processors → Err (error.BadSlot (k.place + q)) ≡ look_from 12 true true false k
+  unfolding look_from look_by step_rules from first_of is_high high_place
+  row_refused {q} found =
       let w = some_least (high_slot k.tasks.count k.row) k.processors q found in
-      let e : k.place + least (high_slot k.tasks.count k.row) k.processors ≡ q = omega (arith, w.0) in
-      rw (some_lt (high_slot k.tasks.count k.row) k.processors q w.0 w.1, e)
+      rw (some_lt (high_slot k.tasks.count k.row) k.processors q w.0 w.1, w.0)
 
   module _ (no : None ≡ lowest (high_slot k.tasks.count k.row) k.processors) where
     pub row_low : is_high k ≡ false
@@ -120,9 +118,9 @@ done_is k =
     ap (λ (f : ℕ → Bool). pack f k.tasks.count)
     (fun_ext (λ i. ap (λ (b : Bool). not (releases k.tasks k.cycle i k.state.tick) && b) (heard_word k.state.done k.state.ran k.report i)))
 
-module _ (f : Counts) (xs row : List ℕ) (s : State) (report : ℕ) (long : length row ≡ f.processors) (narrow : f.processors ≤ 8) where
+module _ (f : Counts) (xs row : List ℕ) (at : ℕ) (s : State) (report : ℕ) (long : length row ≡ f.processors) (narrow : f.processors ≤ 8) where
   abbrev k : OneTick
-  k = tick_on f xs (λ q. get_or row q 0) 0 s report
+  k = tick_on f xs (λ q. get_or row q 0) at s report
 
   module _ (done ran : ℕ) (shown : List ℕ)
       (kept : done ≡ pack (keeps (tasks_of f.tasks xs) f.ticks s.tick (bit_or s.done (bit_and s.ran report))) f.tasks)
@@ -153,6 +151,6 @@ module _ (f : Counts) (xs row : List ℕ) (s : State) (report : ℕ) (long : len
         row_short = omega (arith, length_row k)
 
     pub row_shown : {next : State} → next ≡ after_of f.ticks s done ran → is_high k ≡ false
-        → ◌≡◌ {A = Look} (record { answer = answer.Shown; state = next; row = shown }) (look_from 12 true true false k)
-    unfolding look_from look_by step_rules from first_of if_shown step_of
+        → ◌≡◌ {A = Look} (Ok (record { state = next; row = shown })) (look_from 12 true true false k)
+    unfolding look_from look_by step_rules from first_of step_of
     row_shown e low = rw (low, e, ran_eq, row_eq, done_eq)

@@ -8,6 +8,7 @@ use native.Mathlib.Omega.{arith}
 use lib.Dec.{eqb, leb}
 use lib.ListN.{length}
 use borrow.Author.Tests.{lt-leb, leb-false, eq-eqb, ne_eqb, eqb-true, not-false}
+use Rattle.std.specs.Prelude.{Ok, Err}
 use Rattle.vocabulary.specs.Test.{pick}
 use Rattle.vocabulary.proofs.Test.{clash, both, eq_or_ne, and_false}
 use Rattle.vocabulary.specs.Least.{some}
@@ -22,9 +23,8 @@ use Rattle.kinds.specs.Tasks.{Tasks, Set}
 use Rattle.kinds.specs.Cycle.{cycle}
 use Rattle.kinds.specs.Sound.{sound}
 use Rattle.dispatcher.specs.declared.State.{State}
-use Rattle.dispatcher.specs.declared.Answer.{Answer}
-use Rattle.dispatcher.specs.declared.Answer.TheVariants as answer
-use Rattle.dispatcher.specs.Answers.{number_of}
+use Rattle.dispatcher.specs.declared.StepError.TheVariants as error
+use Rattle.dispatcher.specs.Answers.{Answer, number_of}
 use Rattle.dispatcher.specs.Steps.{OneTick, heard, releases, done_at, done_of, asleep, byte_of, row_of, stands_at, in_row, ran_of, after_of, step_of}
 use Rattle.dispatcher.specs.Refusals.{impossible, overreports, is_high, step_rules, answer_by, if_shown, is_shown}
 use Rattle.dispatcher.specs.Refusals.{tick_of, lengths_fit, answer_of, stepped, stepped_of, left_of}
@@ -119,56 +119,44 @@ module _ (right fits bad : Bool) (k : OneTick) where
   -- a step whose answer has number 0 breaks none of the rules
   pub taken_kept : number_of (answer_by right fits bad k) ≡ 0 → NoneBroken right fits bad k
   unfolding answer_by
-  taken_kept h = none_broken (rw h at (first_told answer.Shown (KeptBy claims) (λ a. Unit {0}) number_of (step_rules right fits bad k) told tt).0)
+  taken_kept h = none_broken (rw h at (first_told (Ok tt) (KeptBy claims) (λ a. Unit {0}) number_of (step_rules right fits bad k) told tt).0)
 
   -- and one that breaks none shows its tick
-  pub kept_shown : NoneBroken right fits bad k → answer_by right fits bad k ≡ answer.Shown
+  pub kept_shown : NoneBroken right fits bad k → answer_by right fits bad k ≡ Ok tt
   unfolding answer_by step_rules first_of
   kept_shown w = rw (w.sound, w.lengths, w.possible, w.reported, w.low)
 
 -- a step is taken where its number is 0
-pub zero_shown : (a : Answer) → number_of a ≡ 0 → a ≡ answer.Shown
-zero_shown answer.Shown e = refl
-zero_shown answer.BadSet e = absurd (omega arith)
-zero_shown answer.WrongLength e = absurd (omega arith)
-zero_shown answer.BadState e = absurd (omega arith)
-zero_shown answer.BadReport e = absurd (omega arith)
-zero_shown (answer.BadSlot x) e = absurd (omega arith)
+pub zero_shown : (a : Answer) → number_of a ≡ 0 → a ≡ Ok tt
+zero_shown (Ok taken) e = refl
+zero_shown (Err error.BadSet) e = absurd (omega arith)
+zero_shown (Err error.WrongLength) e = absurd (omega arith)
+zero_shown (Err error.BadState) e = absurd (omega arith)
+zero_shown (Err error.BadReport) e = absurd (omega arith)
+zero_shown (Err (error.BadSlot x)) e = absurd (omega arith)
 
-pub shown_kept : (right fits bad : Bool) (k : OneTick) → answer_by right fits bad k ≡ answer.Shown → NoneBroken right fits bad k
+pub shown_kept : (right fits bad : Bool) (k : OneTick) → answer_by right fits bad k ≡ Ok tt → NoneBroken right fits bad k
 shown_kept right fits bad k e = taken_kept right fits bad k (ap number_of e)
 
 -- what is done with a tick that is shown, and with a refusal
-pub when_shown : {A : Type 0} (a : Answer) (x y : A) → a ≡ answer.Shown → if_shown a x y ≡ x
+pub when_shown : {A : Type 0} (a : Answer) (x y : A) → a ≡ Ok tt → if_shown a x y ≡ x
 unfolding if_shown
 when_shown a x y e = rw e
 
 pub when_refused : {A : Type 0} (a : Answer) (x y : A) → is_shown a ≡ false → if_shown a x y ≡ y
 unfolding if_shown
-when_refused answer.Shown x y e = clash refl e
-when_refused answer.BadSet x y e = refl
-when_refused answer.WrongLength x y e = refl
-when_refused answer.BadState x y e = refl
-when_refused answer.BadReport x y e = refl
-when_refused (answer.BadSlot p) x y e = refl
+when_refused (Ok taken) x y e = clash refl e
+when_refused (Err r) x y e = refl
 
 pub number_refused : (a : Answer) → (number_of a ≡ 0 → ⊥) → is_shown a ≡ false
 unfolding if_shown
-number_refused answer.Shown n = absurd (n refl)
-number_refused answer.BadSet n = refl
-number_refused answer.WrongLength n = refl
-number_refused answer.BadState n = refl
-number_refused answer.BadReport n = refl
-number_refused (answer.BadSlot p) n = refl
+number_refused (Ok taken) n = absurd (n refl)
+number_refused (Err r) n = refl
 
-pub shown_or_not : (a : Answer) → (a ≡ answer.Shown) ⊎ (is_shown a ≡ false)
+pub shown_or_not : (a : Answer) → (a ≡ Ok tt) ⊎ (is_shown a ≡ false)
 unfolding if_shown
-shown_or_not answer.Shown = inl refl
-shown_or_not answer.BadSet = inr refl
-shown_or_not answer.WrongLength = inr refl
-shown_or_not answer.BadState = inr refl
-shown_or_not answer.BadReport = inr refl
-shown_or_not (answer.BadSlot p) = inr refl
+shown_or_not (Ok taken) = inl refl
+shown_or_not (Err r) = inr refl
 
 -- ---- a step by value
 -- what no test refuses
@@ -194,7 +182,7 @@ module _ (s : Set) (slots : List ℕ) (state : State) (report : ℕ) (out : List
   abbrev a : Answer
   a = answer_of s slots state report (length out)
 
-  allowed_shown : Allowed s slots state report out → answer_of s slots state report (length out) ≡ answer.Shown
+  allowed_shown : Allowed s slots state report out → answer_of s slots state report (length out) ≡ Ok tt
   unfolding answer_of
   allowed_shown w =
       kept_shown _ _ _ (tick_of s slots state report)
@@ -202,7 +190,7 @@ module _ (s : Set) (slots : List ℕ) (state : State) (report : ℕ) (out : List
 
   -- a step that no test refuses is taken: it hands back the next state and leaves its row
   pub none_refuses : Allowed s slots state report out
-      → (stepped_of s slots state report out ≡ stepped answer.Shown (step_of (tick_of s slots state report)))
+      → (stepped_of s slots state report out ≡ stepped (Ok tt) (step_of (tick_of s slots state report)))
       × (left_of s slots state report out ≡ row_of (tick_of s slots state report))
   unfolding stepped_of left_of if_shown
   none_refuses w = (rw (allowed_shown w), rw (allowed_shown w))

@@ -1,11 +1,8 @@
 -- What the last arm of a match knows: the value is none of the kinds before.
 use mathlib.Core.Path.{◌≡◌, refl}
-use mathlib.Core.Bool.{false}
 use Rattle.judge.specs.declared.Verdict.{Verdict}
 use Rattle.judge.specs.declared.Verdict.TheVariants as verdict
-use Rattle.dispatcher.specs.declared.Answer.{Answer}
-use Rattle.dispatcher.specs.declared.Answer.TheVariants as answer
-use Rattle.dispatcher.specs.Refusals.{on_verdict, if_shown, is_shown}
+use Rattle.dispatcher.specs.Refusals.{on_verdict}
 
 pub not_accepted : {A : Type 0} (v : Verdict) (a b : A) → (v ≡ verdict.Accepted → ⊥) → b ≡ on_verdict v a b
 unfolding on_verdict
@@ -17,12 +14,3 @@ not_accepted (verdict.Twice x y z) a b e = refl
 not_accepted (verdict.Outside x y) a b e = refl
 not_accepted (verdict.WrongCount x y z v w) a b e = refl
 not_accepted (verdict.BrokenLink x y z) a b e = refl
-
-pub not_shown : (a : Answer) → (a ≡ answer.Shown → ⊥) → is_shown a ≡ false
-unfolding if_shown
-not_shown answer.Shown e = absurd (e refl)
-not_shown answer.BadSet e = refl
-not_shown answer.WrongLength e = refl
-not_shown answer.BadState e = refl
-not_shown answer.BadReport e = refl
-not_shown (answer.BadSlot x) e = refl

@@ -8,7 +8,7 @@ use Rattle.reader.specs.Files.{taken_of}
 use Rattle.judge.specs.declared.Verdict.{Verdict}
 use Rattle.judge.specs.declared.Verdict.TheVariants as verdict
 use Rattle.judge.specs.Judgement.{rules}
-use Rattle.dispatcher.specs.declared.Answer.{Answer}
+use Rattle.dispatcher.specs.Answers.{Answer}
 use Rattle.dispatcher.specs.Steps.{OneTick, row_of, step_of}
 use Rattle.dispatcher.specs.Refusals.{first_state, on_verdict, impossible, lengths_fit, answer_by, if_shown, tick_of}
 use Rattle.dispatcher.specs.Bytes.{bytes_of, state_of, unclear}

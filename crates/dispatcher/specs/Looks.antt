@@ -1,5 +1,5 @@
 -- A look at a step: what it will do, before anything is written.
-use Rattle.std.specs.Prelude.{Bool, true, ◌&&◌, ◌||◌, not, List, [], ℕ, ◌+◌, ◌*◌, ◌<◌, ◌≤◌, eqb, leb, get_or, length, take, drop}
+use Rattle.std.specs.Prelude.{Bool, true, ◌&&◌, ◌||◌, not, List, [], ℕ, ◌+◌, ◌*◌, ◌<◌, ◌≤◌, eqb, leb, get_or, length, take, drop, Result, Ok, Err}
 use Rattle.vocabulary.specs.Test.{pick}
 use Rattle.vocabulary.specs.Bits.{has}
 use Rattle.vocabulary.specs.Table.{table}
@@ -11,30 +11,38 @@ use Rattle.reader.specs.declared.Taking.{Taking}
 use Rattle.kinds.specs.declared.Counts.{Counts}
 use Rattle.reader.specs.Files.{taken_of}
 use Rattle.dispatcher.specs.declared.State.{State}
-use Rattle.dispatcher.specs.declared.Answer.{Answer}
-use Rattle.dispatcher.specs.declared.Answer.TheVariants as answer
-use Rattle.dispatcher.specs.declared.Look.{Look}
-use Rattle.dispatcher.specs.declared.Stepped.{Stepped}
+use Rattle.dispatcher.specs.declared.StepError.{StepError}
+use Rattle.dispatcher.specs.declared.Shown.{Shown}
+use Rattle.dispatcher.specs.Answers.{Answer}
 use Rattle.dispatcher.specs.Steps.{OneTick, releases, row_of, step_of}
-use Rattle.dispatcher.specs.Refusals.{first_state, impossible, step_rules, if_shown, row_at, tick_of, lengths_fit, stepped}
+use Rattle.dispatcher.specs.Refusals.{impossible, step_rules, row_at, tick_of, lengths_fit}
 use Rattle.dispatcher.specs.Bytes.{state_of, unclear}
-use Rattle.dispatcher.specs.Outcome.{written_of}
-use Rattle.dispatcher.specs.ForC.{StepForC, step_leaves, lengths_for_c, impossible_for_c, tick_in}
+use Rattle.dispatcher.specs.ForC.{lengths_for_c, impossible_for_c, tick_in}
 
 -- a row in eight bytes: behind it there are zeros
 unfoldable pub eight : List ℕ → List ℕ
 eight bytes = table (λ q. get_or bytes q 0) 8
 
--- the answer; where the tick is shown the next state and the row, else blanks, of which nothing is written
-abbrev pub look : Answer → State → List ℕ → Look
-look a s bytes = record { answer = a; state = s; row = eight bytes }
+-- what a tick shows: the next state and the row
+abbrev pub shown_by : OneTick → Shown
+shown_by k = record { state = step_of k; row = eight (row_of k) }
+
+-- A step will show its tick, or it will be refused for a reason.
+abbrev pub Look : Type 0
+Look = Result Shown StepError
 
 unfoldable pub look_by : Answer → OneTick → Look
-look_by a k = look a (if_shown a (step_of k) first_state) (if_shown a (row_of k) [])
+look_by (Ok taken) k = Ok (shown_by k)
+look_by (Err e) k = Err e
+
+-- the answer of the step that a look is about
+unfoldable pub answer_by_look : Look → Answer
+answer_by_look (Ok w) = Ok tt
+answer_by_look (Err e) = Err e
 
 -- What the code's parts answer: the look by a step's rules from rule n on.
 unfoldable pub look_from : ℕ → Bool → Bool → Bool → OneTick → Look
-look_from n right fits bad k = look_by (first_of (from n (step_rules right fits bad k)) answer.Shown) k
+look_from n right fits bad k = look_by (first_of (from n (step_rules right fits bad k)) (Ok tt)) k
 
 -- the look at a step by value, and at a step for C
 unfoldable pub look_of : Set → List ℕ → State → ℕ → ℕ → Look
@@ -52,21 +60,6 @@ look_in t slots report b out =
 
 unfoldable pub look_for : List ℕ → List ℕ → ℕ → List ℕ → ℕ → Look
 look_for tasks slots report b out = look_in (taken_of tasks) slots report b out
-
--- ---- what is written by a look
-unfoldable pub shown_in : List ℕ → ℕ → List ℕ
-shown_in row n = table (λ q. get_or row q 0) n
-
--- by value: the answer and the state to go on from, and the output
-unfoldable pub stepped_by : Look → State → Stepped
-stepped_by l s = stepped l.answer (if_shown l.answer l.state s)
-
-unfoldable pub left_by : Look → List ℕ → List ℕ
-left_by l out = if_shown l.answer (shown_in l.row (length out)) out
-
--- for C
-unfoldable pub written_by : Look → List ℕ → List ℕ → StepForC
-written_by l b out = step_leaves l.answer (if_shown l.answer (written_of l.state b) b) (left_by l out)
 
 -- m entries of a list from a place on, none where they are not all there
 unfoldable pub part_of : List ℕ → ℕ → ℕ → List ℕ

@@ -1,5 +1,5 @@
 -- What starting and stepping answer for every input, and what they leave in the output.
-use Rattle.std.specs.Prelude.{Bool, true, false, ◌&&◌, ◌||◌, not, List, [], ◌∷◌, ℕ, ◌+◌, ◌*◌, ◌^◌, eqb, leb, ltb, get_or, length}
+use Rattle.std.specs.Prelude.{Bool, true, false, ◌&&◌, ◌||◌, not, List, [], ◌∷◌, ℕ, ◌+◌, ◌*◌, ◌^◌, eqb, leb, ltb, get_or, length, Ok, Err}
 use Rattle.vocabulary.specs.Least.{least, some}
 use Rattle.vocabulary.specs.First.{Rule, rule, first_of}
 use Rattle.kinds.specs.Tasks.{Tasks, Set}
@@ -10,9 +10,9 @@ use Rattle.judge.specs.declared.Verdict.TheVariants as verdict
 use Rattle.judge.specs.Judgement.{verdict_of}
 use Rattle.dispatcher.specs.declared.State.{State}
 use Rattle.dispatcher.specs.declared.Started.{Started}
-use Rattle.dispatcher.specs.declared.Answer.{Answer}
-use Rattle.dispatcher.specs.declared.Answer.TheVariants as answer
+use Rattle.dispatcher.specs.declared.StepError.TheVariants as error
 use Rattle.dispatcher.specs.declared.Stepped.{Stepped}
+use Rattle.dispatcher.specs.Answers.{Answer}
 use Rattle.dispatcher.specs.Steps.{OneTick, row_of, step_of}
 
 -- Rule R11.2: the state that a start gives.
@@ -57,24 +57,20 @@ high_place k = k.place + least (high_slot k.tasks.count k.row) k.processors
 -- state is not possible. A step by value and a step for C differ in these tests and in nothing else.
 unfoldable pub step_rules : Bool → Bool → Bool → OneTick → List (Rule Answer)
 step_rules right fits bad k =
-    rule 10 (not right) answer.BadSet
-    ∷ rule 11 (not fits) answer.WrongLength
-    ∷ rule 30 bad answer.BadState
-    ∷ rule 31 (overreports k.tasks k.report) answer.BadReport
-    ∷ rule 12 (is_high k) (answer.BadSlot (high_place k))
+    rule 10 (not right) (Err error.BadSet)
+    ∷ rule 11 (not fits) (Err error.WrongLength)
+    ∷ rule 30 bad (Err error.BadState)
+    ∷ rule 31 (overreports k.tasks k.report) (Err error.BadReport)
+    ∷ rule 12 (is_high k) (Err (error.BadSlot (high_place k)))
     ∷ []
 
 unfoldable pub answer_by : Bool → Bool → Bool → OneTick → Answer
-answer_by right fits bad k = first_of (step_rules right fits bad k) answer.Shown
+answer_by right fits bad k = first_of (step_rules right fits bad k) (Ok tt)
 
 -- one thing for a tick that is shown, another for a refusal
 unfoldable pub if_shown : {A : Type 0} → Answer → A → A → A
-if_shown answer.Shown a b = a
-if_shown answer.BadSet a b = b
-if_shown answer.WrongLength a b = b
-if_shown answer.BadState a b = b
-if_shown answer.BadReport a b = b
-if_shown (answer.BadSlot e) a b = b
+if_shown (Ok taken) a b = a
+if_shown (Err e) a b = b
 
 abbrev pub is_shown : Answer → Bool
 is_shown a = if_shown a true false

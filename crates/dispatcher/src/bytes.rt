@@ -4,7 +4,7 @@ ghost use Rattle.dispatcher.specs.Bytes.{bytes_of, state_of, unclear, number};
 ghost use Rattle.dispatcher.specs.Outcome.{written_of};
 
 use crate::State;
-use crate::leaves::{byte_in, wide_byte};
+use crate::leaves::byte_in;
 
 // Byte k of a number, lowest first.
 fn byte_of(x: u64, k: usize) -> u8
@@ -20,10 +20,8 @@ fn number_in(bytes: &[u8], at: usize, n: usize) -> u64
     ensures { (result ≡ number bytes.now at n) × (result < 2 ^ (8 * n)) }
 {
     let mut x: u64 = 0;
-    let mut k = n;
-    while 0 < k {
-        x = x * 256 + wide_byte(byte_in(bytes, at + (k - 1)));
-        k -= 1;
+    for k in (0..n).rev() {
+        x = x * 256 + u64::from(byte_in(bytes, at + k));
     }
     x
 }
@@ -38,10 +36,10 @@ impl State {
         ensures { result ≡ get_or (bytes_of self) k 0 }
     {
         if k < 4 {
-            return byte_of(self.tick as u64, k);
+            return byte_of(u64::from(self.tick), k);
         }
         if k < 5 {
-            return self.first as u8;
+            return u8::from(self.first);
         }
         if k < 13 {
             return byte_of(self.done, k - 5);
@@ -56,10 +54,8 @@ impl State {
         if out.len() != State::BYTES {
             return;
         }
-        let mut k: usize = 0;
-        while k < State::BYTES {
+        for k in 0..State::BYTES {
             out[k] = self.byte_at(k);
-            k += 1;
         }
     }
 

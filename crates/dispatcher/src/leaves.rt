@@ -3,31 +3,19 @@ ghost use Rattle.std.specs.Prelude.{◌≡◌, ◌^◌, ◌<◌, ◌≤◌, leb,
 ghost use Rattle.vocabulary.specs.Bits.{has};
 ghost use Rattle.dispatcher.specs.Looks.{part_of};
 
-pub(crate) fn wide_byte(x: u8) -> u64
-    ensures { (result ≡ x) × (result < 256) }
-{
-    x as u64
-}
-
 // The byte at a place, 0 past the last.
 pub(crate) fn byte_in(bytes: &[u8], at: usize) -> u8
     ensures { result ≡ get_or bytes.now at 0 }
 {
-    if at < bytes.len() {
-        return bytes[at];
-    }
-    0
+    bytes.get(at).copied().unwrap_or(0)
 }
 
 // m bytes from a place on, none where they are not all there.
 pub(crate) fn part_of(bytes: &[u8], at: usize, m: usize) -> &[u8]
     ensures { result.now ≡ part_of bytes.now at m }
 {
-    if bytes.len() < at {
-        return &bytes[0..0];
-    }
-    if bytes.len() - at < m {
-        return &bytes[0..0];
+    if bytes.len() < at || bytes.len() - at < m {
+        return &bytes[..0];
     }
     &bytes[at..at + m]
 }
@@ -36,18 +24,12 @@ pub(crate) fn part_of(bytes: &[u8], at: usize, m: usize) -> &[u8]
 pub(crate) fn is_marked(x: u64, i: usize) -> bool
     ensures { result ≡ has x i }
 {
-    if 64 <= i {
-        return false;
-    }
-    (x >> i) % 2 == 1
+    i < 64 && (x >> i) % 2 == 1
 }
 
 // The word has a bit at or above n.
 pub(crate) fn has_bit_from(x: u64, n: usize) -> bool
     ensures { result ≡ leb (2 ^ n) x }
 {
-    if 64 <= n {
-        return false;
-    }
-    (x >> n) != 0
+    n < 64 && (x >> n) != 0
 }

@@ -8,8 +8,7 @@ ghost use Rattle.dispatcher.specs.Steps.{after_of};
 ghost use Rattle.dispatcher.specs.Refusals.{first_state, started_of, impossible, lengths_fit};
 ghost use Rattle.dispatcher.specs.Outcome.{StepOutcome};
 ghost use Rattle.dispatcher.specs.ForC.{start_leaves, start_verdict, first_bytes, start_for, step_leaves, step_for};
-ghost use Rattle.dispatcher.specs.Looks.{look, look_from, look_of, look_for, stepped_by, left_by, written_by, tick_on, tick_for, Steppable, look_in_bytes};
-ghost use Rattle.dispatcher.specs.declared.Answer.TheVariants as answer;
+ghost use Rattle.dispatcher.specs.Looks.{look_from, look_of, look_for, tick_on, tick_for, Steppable, look_in_bytes};
 
 use crate::leaves::{has_bit_from, part_of};
 use crate::marks::{kept_marks, ran_in, show_row, shown_row};
@@ -36,10 +35,9 @@ pub struct Started {
     pub state: State,
 }
 
-// What a step did.
+// Why a step is refused.
 #[derive(Clone, Copy)]
-pub enum Answer {
-    Shown,
+pub enum StepError {
     BadSet,
     WrongLength,
     BadState,
@@ -48,30 +46,18 @@ pub enum Answer {
     BadSlot(usize),
 }
 
-// The answer, and the next state; a refusal hands back the state that came in.
+// Whether the step was taken, and the next state; a refusal hands back the state that came in.
 #[derive(Clone, Copy)]
 pub struct Stepped {
-    pub answer: Answer,
+    pub answer: Result<(), StepError>,
     pub state: State,
 }
 
-// What a step will do: its answer, and where the tick is shown, the next state and the row, in eight bytes; a refusal has blanks there.
+// What a step will show: the next state and the row, in eight bytes.
 #[derive(Clone, Copy)]
-pub struct Look {
-    pub answer: Answer,
+pub struct Shown {
     pub state: State,
     pub row: [u8; 8],
-}
-
-// A look that refuses.
-fn refused(answer: Answer) -> Look
-    ensures { result ≡ look answer first_state [] }
-{
-    Look {
-        answer,
-        state: State::new(),
-        row: [0u8; 8],
-    }
 }
 
 // Whether plan and output have the lengths that a step asks for.
@@ -80,10 +66,7 @@ fn lengths_fit(f: Counts, plan: usize, out: usize) -> bool
     ensures { result ≡ lengths_fit f.processors f.ticks plan out }
 {
     let m = wide(f.processors);
-    if plan != m * wide(f.ticks) {
-        return false;
-    }
-    out == m
+    plan == m * wide(f.ticks) && out == m
 }
 
 impl State {
@@ -120,13 +103,7 @@ impl State {
     fn is_impossible(self, h: u32, n: usize) -> bool
         ensures { result ≡ impossible (tasks_of n []) h self }
     {
-        if h <= self.tick {
-            return true;
-        }
-        if has_bit_from(self.done, n) {
-            return true;
-        }
-        has_bit_from(self.ran, n)
+        h <= self.tick || has_bit_from(self.done, n) || has_bit_from(self.ran, n)
     }
 
     // The state after a tick that left these marks.
@@ -151,58 +128,68 @@ impl State {
         }
     }
 
-    // A step over a row of slots: 12 with the processor, or what the tick does.
-    fn step_row(self, row: &[u8], f: Counts, attributes: &Attributes, report: u64) -> Look
-        requires { Steppable f attributes.now × (self.tick < f.ticks) × (length row.now ≡ f.processors) }
-        ensures { result ≡ look_from 12 true true false (tick_on f attributes.now (λ q. get_or row.now q 0) 0 self report) }
+    // A step over a row of slots, which stands at a place in the plan: 12 with the place of the slot, or what the tick does.
+    fn step_row(
+        self,
+        row: &[u8],
+        at: usize,
+        f: Counts,
+        attributes: &Attributes,
+        report: u64,
+    ) -> Result<Shown, StepError>
+        requires { Steppable f attributes.now × (self.tick < f.ticks) × (length row.now ≡ f.processors) × (at ≤ 48000) }
+        ensures { result ≡ look_from 12 true true false (tick_on f attributes.now (λ q. get_or row.now q 0) at self report) }
     {
         let n = f.tasks;
         if let Some(q) = slots::first_high(row, n) {
-            return refused(Answer::BadSlot(q));
+            return Err(StepError::BadSlot(at + q));
         }
         let heard = self.ran & report;
         let done = kept_marks(self.done | heard, self.tick, f, attributes);
         let shown = shown_row(self, row, attributes, done);
         let ran = ran_in(&shown, n);
         let state = self.after(f.ticks, done, ran);
-        Look {
-            answer: Answer::Shown,
-            state,
-            row: shown,
-        }
+        Ok(Shown { state, row: shown })
     }
 
-    // A step over a plan of the right length, from rule 30 on: the row is a part of the plan, and the evidence of 12 a place in it.
-    fn look_on(self, f: Counts, attributes: &Attributes, plan: &[u8], report: u64) -> Look
+    // A step over a plan of the right length, from rule 30 on: the row is a part of the plan.
+    fn look_on(
+        self,
+        f: Counts,
+        attributes: &Attributes,
+        plan: &[u8],
+        report: u64,
+    ) -> Result<Shown, StepError>
         requires { Steppable f attributes.now × (length plan.now ≡ f.processors * f.ticks) }
         ensures { result ≡ look_from 30 true true (impossible (tasks_of f.tasks []) f.ticks self) (tick_for f attributes.now plan.now self report) }
     {
         if self.is_impossible(f.ticks, f.tasks) {
-            return refused(Answer::BadState);
+            return Err(StepError::BadState);
         }
         if has_bit_from(report, f.tasks) {
-            return refused(Answer::BadReport);
+            return Err(StepError::BadReport);
         }
         let m = wide(f.processors);
         let at = wide(self.tick) * m;
         let row = part_of(plan, at, m);
-        let look = self.step_row(row, f, attributes, report);
-        let answer = look.answer;
-        match answer {
-            Answer::BadSlot(q) => refused(Answer::BadSlot(at + q)),
-            _ => look,
-        }
+        self.step_row(row, at, f, attributes, report)
     }
 
     // A look at a step, with room for so many bytes in the output.
-    fn look_at(self, set: TaskSet, plan: &[u8], report: u64, room: usize) -> Look
+    fn look_at(
+        self,
+        set: TaskSet,
+        plan: &[u8],
+        report: u64,
+        room: usize,
+    ) -> Result<Shown, StepError>
         ensures { result ≡ look_of (view set) plan.now self report room }
     {
         let Some(f) = kinds::counts_of(set) else {
-            return refused(Answer::BadSet);
+            return Err(StepError::BadSet);
         };
         if !lengths_fit(f, plan.len(), room) {
-            return refused(Answer::WrongLength);
+            return Err(StepError::WrongLength);
         }
         let attributes = set.attributes;
         self.look_on(f, &attributes, plan, report)
@@ -212,44 +199,18 @@ impl State {
     pub fn step(self, set: TaskSet, plan: &[u8], report: u64, out: &mut [u8]) -> Stepped
         ensures { StepOutcome (view set) plan.now self report out.old result out.new }
     {
-        let look = self.look_at(set, plan, report, out.len());
-        look.shown(self, out)
-    }
-}
-
-impl Look {
-    // Does by the look what a step does.
-    fn shown(self, old: State, out: &mut [u8]) -> Stepped
-        requires { self.answer ≡ answer.Shown → length out.old ≤ 8 }
-        ensures { (result ≡ stepped_by self old) × (out.new ≡ left_by self out.old) }
-    {
-        let answer = self.answer;
-        let state = self.state;
-        let row = self.row;
-        match answer {
-            Answer::Shown => {
-                show_row(&row, out);
-                Stepped { answer, state }
+        match self.look_at(set, plan, report, out.len()) {
+            Ok(shown) => {
+                show_row(&shown.row, out);
+                Stepped {
+                    answer: Ok(()),
+                    state: shown.state,
+                }
             }
-            _ => Stepped { answer, state: old },
-        }
-    }
-
-    // Does by the look what a step for C does.
-    fn written(self, state: &mut [u8], out: &mut [u8]) -> Answer
-        requires { self.answer ≡ answer.Shown → length out.old ≤ 8 }
-        ensures { step_leaves result state.new out.new ≡ written_by self state.old out.old }
-    {
-        let answer = self.answer;
-        let next = self.state;
-        let row = self.row;
-        match answer {
-            Answer::Shown => {
-                next.write(state);
-                show_row(&row, out);
-                answer
-            }
-            _ => answer,
+            Err(e) => Stepped {
+                answer: Err(e),
+                state: self,
+            },
         }
     }
 }
@@ -295,24 +256,30 @@ fn look_bytes(
     report: u64,
     state: &[u8],
     room: usize,
-) -> Look
+) -> Result<Shown, StepError>
     requires { Steppable f attributes.now }
     ensures { result ≡ look_in_bytes f attributes.now plan.now report state.now room }
 {
     if !lengths_fit(f, plan.len(), room) {
-        return refused(Answer::WrongLength);
+        return Err(StepError::WrongLength);
     }
     if state.len() != State::BYTES {
-        return refused(Answer::WrongLength);
+        return Err(StepError::WrongLength);
     }
     if !State::is_clear(state) {
-        return refused(Answer::BadState);
+        return Err(StepError::BadState);
     }
     State::read(state).look_on(f, attributes, plan, report)
 }
 
 // A look at a step for C, on tasks as the head of a file, with room for so many bytes in the output. It copies no set.
-pub fn look_head(tasks: &[u8], plan: &[u8], report: u64, state: &[u8], room: usize) -> Look
+pub fn look_head(
+    tasks: &[u8],
+    plan: &[u8],
+    report: u64,
+    state: &[u8],
+    room: usize,
+) -> Result<Shown, StepError>
     ensures { result ≡ look_for tasks.now plan.now report state.now room }
 {
     let mut attributes = [0u32; 256];
@@ -320,43 +287,51 @@ pub fn look_head(tasks: &[u8], plan: &[u8], report: u64, state: &[u8], room: usi
     let mut pairs = [0u16; 2048];
     let f = reader::read_whole(tasks, &mut attributes, &mut headings, &mut pairs);
     if f.ticks == 0 {
-        return refused(Answer::BadSet);
+        return Err(StepError::BadSet);
     }
     look_bytes(f, &attributes, plan, report, state, room)
 }
 
 // The step for C, from and to the 21 bytes of the state; a refusal leaves them and the output.
-pub fn step_head(tasks: &[u8], plan: &[u8], report: u64, state: &mut [u8], out: &mut [u8]) -> Answer
+pub fn step_head(
+    tasks: &[u8],
+    plan: &[u8],
+    report: u64,
+    state: &mut [u8],
+    out: &mut [u8],
+) -> Result<(), StepError>
     ensures { step_leaves result state.new out.new ≡ step_for tasks.now plan.now report state.old out.old }
 {
-    let look = look_head(tasks, plan, report, state, out.len());
-    look.written(state, out)
+    let shown = look_head(tasks, plan, report, state, out.len())?;
+    shown.state.write(state);
+    show_row(&shown.row, out);
+    Ok(())
 }
 
-// The number of what a step did: 0, 10, 11, 30, 31 or 12.
-pub fn number_of(a: Answer) -> u32
-    ensures { result ≡ number_of a }
+// The number of a step's answer: 0, 10, 11, 30, 31 or 12.
+pub fn number_of(answer: Result<(), StepError>) -> u32
+    ensures { result ≡ number_of answer }
 {
-    match a {
-        Answer::Shown => 0,
-        Answer::BadSet => 10,
-        Answer::WrongLength => 11,
-        Answer::BadState => 30,
-        Answer::BadReport => 31,
-        Answer::BadSlot(_) => 12,
+    match answer {
+        Ok(()) => 0,
+        Err(StepError::BadSet) => 10,
+        Err(StepError::WrongLength) => 11,
+        Err(StepError::BadState) => 30,
+        Err(StepError::BadReport) => 31,
+        Err(StepError::BadSlot(_)) => 12,
     }
 }
 
 // Its evidence, by place; 0 past the last.
-pub fn evidence_of(a: Answer, which: u32) -> usize
-    ensures { result ≡ get_or (evidence_of a) which 0 }
+pub fn evidence_of(answer: Result<(), StepError>, which: u32) -> usize
+    ensures { result ≡ get_or (evidence_of answer) which 0 }
 {
-    match a {
-        Answer::Shown => 0,
-        Answer::BadSet => 0,
-        Answer::WrongLength => 0,
-        Answer::BadState => 0,
-        Answer::BadReport => 0,
-        Answer::BadSlot(e) => evidence::number_at(which, &[e]),
+    match answer {
+        Ok(()) => 0,
+        Err(StepError::BadSet) => 0,
+        Err(StepError::WrongLength) => 0,
+        Err(StepError::BadState) => 0,
+        Err(StepError::BadReport) => 0,
+        Err(StepError::BadSlot(e)) => evidence::number_at(which, &[e]),
     }
 }

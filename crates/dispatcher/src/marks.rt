@@ -38,12 +38,10 @@ pub(crate) fn kept_marks(marks: u64, c: u32, f: Counts, attributes: &Attributes)
 {
     let n = f.tasks;
     let mut r: u64 = 0;
-    let mut i: usize = 0;
-    while i < n {
+    for i in 0..n {
         if keeps_mark(marks, c, f, attributes, i) {
             r += 1u64 << i;
         }
-        i += 1;
     }
     r
 }
@@ -52,7 +50,7 @@ pub(crate) fn kept_marks(marks: u64, c: u32, f: Counts, attributes: &Attributes)
 fn is_asleep(s: State, offset: u32) -> bool
     ensures { result ≡ (s.first && ltb s.tick offset) }
 {
-    if s.first { s.tick < offset } else { false }
+    s.first && s.tick < offset
 }
 
 // What slot v shows: itself, or 0 where the task is not yet awake or is done.
@@ -63,7 +61,7 @@ fn byte_for(s: State, attributes: &Attributes, done: u64, v: u8) -> u8
     if v == 0 {
         return 0;
     }
-    let i = (v - 1) as usize;
+    let i = usize::from(v - 1);
     if is_asleep(s, attributes[TaskSet::OF_TASK * i + TaskSet::OFFSET]) {
         return 0;
     }
@@ -79,10 +77,8 @@ pub(crate) fn shown_row(s: State, row: &[u8], attributes: &Attributes, done: u64
     ensures { result ≡ table (λ q. byte_of (tasks_of 0 attributes.now) s done (get_or row.now q 0)) 8 }
 {
     let mut shown = [0u8; 8];
-    let mut q: usize = 0;
-    while q < 8 {
+    for q in 0..8 {
         shown[q] = byte_for(s, attributes, done, byte_in(row, q));
-        q += 1;
     }
     shown
 }
@@ -104,10 +100,8 @@ pub(crate) fn ran_in(row: &[u8; 8], n: usize) -> u64
     ensures { result ≡ pack (λ i. some (stands_at row.now i) 8) n }
 {
     let mut r: u64 = 0;
-    let mut q: usize = 0;
-    while q < 8 {
-        r = with_mark(r, row[q]);
-        q += 1;
+    for v in row {
+        r = with_mark(r, *v);
     }
     r
 }
@@ -117,9 +111,5 @@ pub(crate) fn show_row(row: &[u8; 8], out: &mut [u8])
     requires { length out.old ≤ 8 }
     ensures { out.new ≡ table (λ q. get_or row.now q 0) (length out.old) }
 {
-    let mut q: usize = 0;
-    while q < out.len() {
-        out[q] = row[q];
-        q += 1;
-    }
+    out.copy_from_slice(&row[..out.len()]);
 }

@@ -1,5 +1,5 @@
 -- Rule R12.5: what the calls for C answer, a number, and one evidence number at a time.
-use Rattle.std.specs.Prelude.{◌≡◌, refl, List, [], ◌∷◌, ℕ, ◌%◌, ℤ, get_or, length, Result}
+use Rattle.std.specs.Prelude.{◌≡◌, refl, List, [], ◌∷◌, ℕ, ◌%◌, ℤ, get_or, length, Result, Ok, Err, MatchResult, IsOkAnd}
 use Rattle.std.proofs.Common.{sym, ap, ◌∙◌}
 use Rattle.vocabulary.specs.First.{from}
 use Rattle.heads.specs.declared.Outcome.{Outcome}
@@ -14,13 +14,15 @@ use Rattle.writer.specs.Answers as writeAnswers
 use Rattle.writer.specs.Writing.{WriteLeft, write_leaves}
 use Rattle.judge.specs.declared.Verdict.{Verdict}
 use Rattle.judge.specs.Answers as judgeAnswers
-use Rattle.dispatcher.specs.declared.Answer.{Answer}
 use Rattle.dispatcher.specs.Answers as stepAnswers
-use Rattle.dispatcher.specs.declared.Look.{Look}
+use Rattle.dispatcher.specs.declared.Shown.{Shown}
+use Rattle.dispatcher.specs.Answers.{Answer}
+use Rattle.dispatcher.specs.Steps.{OneTick}
 use Rattle.dispatcher.specs.Refusals.{step_rules, answer_by}
 use Rattle.dispatcher.specs.ForC.{StartForC, start_leaves, StepForC, step_leaves, answer_in, step_for}
-use Rattle.dispatcher.specs.Looks.{look_by, look_from, look_in, look_for}
+use Rattle.dispatcher.specs.Looks.{look_by, look_from, look_in, look_for, Look, answer_by_look}
 use Rattle.screen.specs.Answers.{Adjusted}
+use Rattle.screen.specs.declared.Adjusted.{Adjusted}
 use Rattle.screen.specs.Answers.{adjusted_number}
 use Rattle.screen.specs.Heads.{AdjustedBy}
 
@@ -86,11 +88,23 @@ pub step_once : {l : StepForC} {r r' : ℕ} {state state' out out' : List ℕ} �
     → (r ≡ r') × (state ≡ state') × (out ≡ out')
 step_once p q = (p.number ∙ sym q.number, p.kept ∙ sym q.kept, p.shown ∙ sym q.shown)
 
+said_by : (a : Answer) (k : OneTick) → answer_by_look (look_by a k) ≡ a
+unfolding answer_by_look look_by
+said_by (Ok taken) k = refl
+said_by (Err e) k = refl
+
 -- a look at a step has the step's answer
 pub looked : (tasks slots : List ℕ) (report : ℕ) (state out : List ℕ) {l : Look} → l ≡ look_for tasks slots report state (length out)
-    → l.answer ≡ (step_for tasks slots report state out).answer
-unfolding look_for look_in look_from look_by step_for answer_in answer_by step_rules from
-looked tasks slots report state out e = ap (λ (x : Look). x.answer) e
+    → answer_by_look l ≡ (step_for tasks slots report state out).answer
+unfolding look_for look_in look_from step_for answer_in answer_by step_rules from
+looked tasks slots report state out e = ap answer_by_look e ∙ said_by _ _
+
+-- a look without what it shows
+pub unshown : (l : Look) (a : Answer) (P : Shown → Unit {0} → Type 0) → MatchResult l (λ w. IsOkAnd a (P w)) (λ e. a ≡ Err e) → a ≡ answer_by_look l
+unfolding answer_by_look
+unshown (Ok w) (Ok taken) P h = refl
+unshown (Ok w) (Err e) P h = absurd h
+unshown (Err e) a P h = h
 
 -- the reader's evidence is one number
 one_place : (r : Refusal) → refusal_evidence r ≡ get_or (refusal_evidence r) 0 0 ∷ []

@@ -88,8 +88,7 @@ pub extern "C" fn flute_step_evidence(
     ensures { result ≡ evidence_in (stepAnswers.evidence_of (step_for tasks.now plan.now report state.now out.now).answer) which }
 {
     let look = dispatcher::look_head(tasks, plan, report, state, out.len());
-    let answer = look.answer;
-    narrow(dispatcher::evidence_of(answer, which))
+    narrow(dispatcher::evidence_of(look.map(|_| ()), which))
 }
 
 #[unsafe(no_mangle)]

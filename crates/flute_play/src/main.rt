@@ -7,7 +7,7 @@ ghost use Rattle.std.specs.Prelude.{◌≡◌, ◌+◌, ◌<◌, ◌≤◌, leng
 ghost use Rattle.dispatcher.specs.Bytes.{number};
 
 use console::Line;
-use dispatcher::{Answer, State};
+use dispatcher::{State, StepError};
 use heads::Outcome;
 use judge::Verdict;
 use kinds::TaskSet;
@@ -59,32 +59,17 @@ fn print_row(rt: &impl Print, k: usize, row: &[u8]) -> Result<()> {
 }
 
 // The line for a step that is refused; three of its refusals are the judge's too.
-fn print_refused(rt: &impl Print, a: Answer) -> Result<()> {
-    match a {
-        Answer::Shown => Ok(()),
-        Answer::BadSet => verdicts::print_verdict(rt, Verdict::BadSet, 0),
-        Answer::WrongLength => verdicts::print_verdict(rt, Verdict::WrongLength, 0),
-        Answer::BadState => Line::new()
+fn print_refused(rt: &impl Print, e: StepError) -> Result<()> {
+    match e {
+        StepError::BadSet => verdicts::print_verdict(rt, Verdict::BadSet, 0),
+        StepError::WrongLength => verdicts::print_verdict(rt, Verdict::WrongLength, 0),
+        StepError::BadState => Line::new()
             .put(b"30 the dispatcher's state is not possible\n")
             .print(rt),
-        Answer::BadReport => Line::new()
+        StepError::BadReport => Line::new()
             .put(b"31 a report has a bit at or above the task count\n")
             .print(rt),
-        Answer::BadSlot(e) => verdicts::print_verdict(rt, Verdict::BadSlot(e), 0),
-    }
-}
-
-// Prints step k; answers whether the play goes on.
-fn print_step(rt: &impl Print, k: usize, a: Answer, row: &[u8]) -> Result<bool> {
-    match a {
-        Answer::Shown => {
-            print_row(rt, k, row)?;
-            Ok(true)
-        }
-        _ => {
-            print_refused(rt, a)?;
-            Ok(false)
-        }
+        StepError::BadSlot(at) => verdicts::print_verdict(rt, Verdict::BadSlot(at), 0),
     }
 }
 
@@ -101,12 +86,11 @@ fn play_steps(
     let mut state = start;
     for k in 0..steps {
         let r = state.step(set, plan, report_of(reports, k), row);
-        let answer = r.answer;
-        let next = r.state;
-        if !print_step(rt, k, answer, row)? {
-            return Ok(());
+        if let Err(e) = r.answer {
+            return print_refused(rt, e);
         }
-        state = next;
+        print_row(rt, k, row)?;
+        state = r.state;
     }
     Ok(())
 }

@@ -1,5 +1,5 @@
 -- Demand 3 for C: starting and stepping on bytes.
-use Rattle.std.specs.Prelude.{◌≡◌, true, false, ◌&&◌, ◌||◌, not, List, ℕ, suc, length}
+use Rattle.std.specs.Prelude.{◌≡◌, true, false, ◌&&◌, ◌||◌, not, List, ℕ, suc, length, Ok}
 use Rattle.std.proofs.Common.{sym, ap, ◌∙◌, arith}
 use Rattle.std.proofs.Math.Dec.{eqb}
 use borrow.Author.Tests.{eq-eqb, eqb-true, not-false}
@@ -13,8 +13,7 @@ use Rattle.judge.specs.declared.Verdict.TheVariants as verdict
 use Rattle.judge.specs.Answers as judgeAnswers
 use Rattle.judge.specs.Judgement.{verdict_of}
 use Rattle.dispatcher.specs.declared.State.{State}
-use Rattle.dispatcher.specs.declared.Answer.{Answer}
-use Rattle.dispatcher.specs.declared.Answer.TheVariants as answer
+use Rattle.dispatcher.specs.Answers.{Answer}
 use Rattle.dispatcher.specs.declared.Stepped.{Stepped}
 use Rattle.dispatcher.specs.Steps.{OneTick, row_of, step_of}
 use Rattle.dispatcher.specs.Refusals.{first_state, on_verdict, impossible, lengths_fit, if_shown, is_shown, tick_of, answer_by}
@@ -44,14 +43,14 @@ module _ (tasks slots : List ℕ) (fitting : (taken_of tasks).fits ≡ true) whe
   pub taken_in_bytes : (state : State) (report : ℕ) (out : List ℕ) → unclear (bytes_of state) ≡ false → state_of (bytes_of state) ≡ state
       → Allowed set slots state report out
       → step_for tasks slots report (bytes_of state) out
-      ≡ step_leaves answer.Shown (bytes_of (step_of (tick_of set slots state report))) (row_of (tick_of set slots state report))
+      ≡ step_leaves (Ok tt) (bytes_of (step_of (tick_of set slots state report))) (row_of (tick_of set slots state report))
   unfolding step_for answer_in if_shown
   taken_in_bytes state report out clear same w =
       rw (same, shown)
     where
       shown : answer_by (taken_of tasks).fits (lengths_fit set.processors (cycle set.tasks) (length slots) (length out) && eqb (length (bytes_of state)) 21)
           (unclear (bytes_of state) || impossible set.tasks (cycle set.tasks) state) (tick_of set slots state report)
-          ≡ answer.Shown
+          ≡ Ok tt
       shown =
           kept_shown _ _ _ (tick_of set slots state report)
           (record {
@@ -65,22 +64,22 @@ module _ (tasks slots : List ℕ) (fitting : (taken_of tasks).fits ≡ true) whe
   -- and one with the report of step n, from the bytes of the state before it, is that step
   pub step_in_bytes : Fits set slots → (reports : ℕ → ℕ) (n : ℕ) (out : List ℕ) → Allowed set slots (state_at (play_of set slots) reports n) (reports n) out
       → step_for tasks slots (reports n) (bytes_of (state_at (play_of set slots) reports n)) out
-      ≡ step_leaves answer.Shown (bytes_of (state_at (play_of set slots) reports (suc n))) (shown_at (play_of set slots) reports n)
+      ≡ step_leaves (Ok tt) (bytes_of (state_at (play_of set slots) reports (suc n))) (shown_at (play_of set slots) reports n)
   step_in_bytes fits reports n out w =
       let state : State = state_at (play_of set slots) reports n in
       let k = bytes_keep set slots fits reports n in
       let g = step_at set slots fits reports n out w in
       let h = none_refuses set slots state (reports n) out w in
       taken_in_bytes state (reports n) out k.0 k.1 w
-      ∙ ap (λ (x : State). step_leaves answer.Shown (bytes_of x) (row_of (tick_of set slots state (reports n))))
+      ∙ ap (λ (x : State). step_leaves (Ok tt) (bytes_of x) (row_of (tick_of set slots state (reports n))))
       (ap (λ (x : Stepped). x.state) (sym h.0 ∙ g.0))
-      ∙ ap (step_leaves answer.Shown (bytes_of (state_at (play_of set slots) reports (suc n)))) (sym h.1 ∙ g.1)
+      ∙ ap (step_leaves (Ok tt) (bytes_of (state_at (play_of set slots) reports (suc n)))) (sym h.1 ∙ g.1)
 
   -- No step from the bytes of the run's state, with an output of m bytes and no report bit at or above the task count, is refused: it leaves the bytes of the
   -- run's next state, and the run's next row in the output.
   pub goes_on_in_bytes : Fits set slots → (reports : ℕ → ℕ) → LowReports set reports → (n : ℕ) (out : List ℕ) → length out ≡ set.processors
       → step_for tasks slots (reports n) (bytes_of (state_at (play_of set slots) reports n)) out
-      ≡ step_leaves answer.Shown (bytes_of (state_at (play_of set slots) reports (suc n))) (shown_at (play_of set slots) reports n)
+      ≡ step_leaves (Ok tt) (bytes_of (state_at (play_of set slots) reports (suc n))) (shown_at (play_of set slots) reports n)
   goes_on_in_bytes fits reports low n out l =
       step_in_bytes fits reports n out (allowed_at set slots fits reports n (reports n) out (low n) l)
 

@@ -13,8 +13,7 @@ use Rattle.kinds.specs.Cycle.{cycle}
 use Rattle.reader.specs.Files.{taken_of}
 use Rattle.judge.specs.declared.Verdict.TheVariants as verdict
 use Rattle.judge.specs.Judgement.{verdict_of}
-use Rattle.dispatcher.specs.declared.Answer.{Answer}
-use Rattle.dispatcher.specs.Answers.{number_of}
+use Rattle.dispatcher.specs.Answers.{Answer, number_of}
 use Rattle.dispatcher.specs.Refusals.{first_state, lengths_fit}
 use Rattle.dispatcher.specs.Runs.{Play, play_of, state_at, shown_at}
 use Rattle.dispatcher.specs.Bytes.{bytes_of}

@@ -1,5 +1,5 @@
 -- A plan's repetition is a play: what its steps lean on.
-use Rattle.std.specs.Prelude.{◌≡◌, refl, Bool, false, List, get_or, length}
+use Rattle.std.specs.Prelude.{◌≡◌, refl, Bool, false, List, get_or, length, Ok}
 use Rattle.std.proofs.Common.{sym, ◌∙◌, ⊎_elim, mod-lt, arith}
 use Rattle.std.proofs.Math.Path.{ap}
 use Prim.Native.Nat.{ℕ, zero, suc, ◌+◌, ◌*◌, ◌^◌, ◌≤◌, ◌<◌}
@@ -16,7 +16,6 @@ use Rattle.kinds.proofs.SoundFacts.{Sound, sound_facts}
 use Rattle.judge.specs.declared.Verdict.TheVariants as verdict
 use Rattle.judge.specs.Judgement.{verdict_of}
 use Rattle.dispatcher.specs.declared.State.{State}
-use Rattle.dispatcher.specs.declared.Answer.TheVariants as answer
 use Rattle.dispatcher.specs.Steps.{OneTick, step_of, row_of}
 use Rattle.dispatcher.specs.Refusals.{impossible, high_slot, is_high, row_at, tick_of, stepped, stepped_of, left_of}
 use Rattle.dispatcher.specs.Runs.{Play, play_of, tick_at, state_at, shown_at}
@@ -102,12 +101,12 @@ module _ (s : Set) (slots : List ℕ) (fits : Fits s slots) where
 
     -- one with the report of step n is that step
     pub step_at : (n : ℕ) (out : List ℕ) → Allowed s slots (state_at (play_of s slots) reports n) (reports n) out
-        → (stepped_of s slots (state_at (play_of s slots) reports n) (reports n) out ≡ stepped answer.Shown (state_at (play_of s slots) reports (suc n)))
+        → (stepped_of s slots (state_at (play_of s slots) reports n) (reports n) out ≡ stepped (Ok tt) (state_at (play_of s slots) reports (suc n)))
         × (left_of s slots (state_at (play_of s slots) reports n) (reports n) out ≡ shown_at (play_of s slots) reports n)
     unfolding state_at shown_at
     step_at n out a =
         let w = none_refuses s slots (state_at y reports n) (reports n) out a in
-        (w.0 ∙ ap (λ (r : ℕ → ℕ). stepped answer.Shown (step_of (tick_by n r))) (row_at_lem n), w.1 ∙ ap (λ (r : ℕ → ℕ). row_of (tick_by n r)) (row_at_lem n))
+        (w.0 ∙ ap (λ (r : ℕ → ℕ). stepped (Ok tt) (step_of (tick_by n r))) (row_at_lem n), w.1 ∙ ap (λ (r : ℕ → ℕ). row_of (tick_by n r)) (row_at_lem n))
       where
         tick_by : ℕ → (ℕ → ℕ) → OneTick
         tick_by n r =

@@ -1,5 +1,5 @@
 -- The terms of demand 3.
-use Rattle.std.specs.Prelude.{◌≡◌, Bool, true, false, ◌&&◌, List, [], ◌∷◌, map, ℕ, suc, ◌+◌, ◌*◌, ◌^◌, ◌≤◌, ◌<◌, eqb, ltb, get_or, length}
+use Rattle.std.specs.Prelude.{◌≡◌, Bool, true, false, ◌&&◌, List, [], ◌∷◌, map, ℕ, suc, ◌+◌, ◌*◌, ◌^◌, ◌≤◌, ◌<◌, eqb, ltb, get_or, length, Ok}
 use Rattle.std.specs.Int.{◌∣◌}
 use Rattle.vocabulary.specs.Test.{pick}
 use Rattle.vocabulary.specs.Least.{some}
@@ -15,9 +15,7 @@ use Rattle.kinds.specs.Plans.{awake}
 use Rattle.kinds.specs.Sound.{sound}
 use Rattle.kinds.specs.Valid.{InSomeWindow}
 use Rattle.dispatcher.specs.declared.State.{State}
-use Rattle.dispatcher.specs.declared.Answer.{Answer}
-use Rattle.dispatcher.specs.declared.Answer.TheVariants as answer
-use Rattle.dispatcher.specs.Answers.{number_of}
+use Rattle.dispatcher.specs.Answers.{Answer, number_of}
 use Rattle.dispatcher.specs.Refusals.{impossible, stepped, stepped_of, left_of}
 use Rattle.dispatcher.specs.Runs.{Play, play_of, state_at, shown_at, gives, finishes}
 
@@ -88,7 +86,7 @@ pub record GoesOn (s : Set) (slots : List ℕ) (reports : ℕ → ℕ) (n : ℕ)
   pub possible : impossible s.tasks (cycle s.tasks) (state_at (play_of s slots) reports n) ≡ false
   pub taken : (out : List ℕ) → length out ≡ s.processors
       → stepped_of s slots (state_at (play_of s slots) reports n) (reports n) out
-      ≡ stepped answer.Shown (state_at (play_of s slots) reports (suc n))
+      ≡ stepped (Ok tt) (state_at (play_of s slots) reports (suc n))
   pub left : (out : List ℕ) → length out ≡ s.processors
       → left_of s slots (state_at (play_of s slots) reports n) (reports n) out
       ≡ shown_at (play_of s slots) reports n

@@ -1,5 +1,5 @@
 -- Two sets that agree on what counts step alike: the same answer, the same next state, and the same bytes in the output.
-use Rattle.std.specs.Prelude.{◌≡◌, Bool, ◌&&◌, ◌||◌, ◌⊎◌, length}
+use Rattle.std.specs.Prelude.{◌≡◌, Bool, ◌&&◌, ◌||◌, ◌⊎◌, length, Ok, Err}
 use Rattle.std.proofs.Math.Path.{refl, ap, ap₂}
 use Rattle.std.proofs.Common.{sym, ◌∙◌, inl, inr, arith}
 use Rattle.std.proofs.Math.Bool.{true, false, not}
@@ -17,8 +17,8 @@ use Rattle.kinds.specs.Tasks.{Tasks, Set, offset}
 use Rattle.kinds.specs.Cycle.{cycle}
 use Rattle.kinds.proofs.WhatCounts.{Agree, cycle_agree, sound_agree}
 use Rattle.dispatcher.specs.declared.State.{State}
-use Rattle.dispatcher.specs.declared.Answer.{Answer}
-use Rattle.dispatcher.specs.declared.Answer.TheVariants as answer
+use Rattle.dispatcher.specs.declared.StepError.TheVariants as error
+use Rattle.dispatcher.specs.Answers.{Answer}
 use Rattle.dispatcher.specs.Steps.{releases, heard, done_at, done_of, asleep, byte_of, row_of, ran_of, after_of, step_of}
 use Rattle.dispatcher.specs.Refusals.{impossible, overreports, high_slot, is_high, high_place, step_rules, answer_by, if_shown, is_shown, row_at, tick_of, lengths_fit}
 use Rattle.dispatcher.specs.Refusals.{answer_of, stepped, stepped_of, left_of}
@@ -34,10 +34,10 @@ pack_same f g (suc n) h =
     ap₂ (λ (x : ℕ) (b : Bool). x + bit b * 2 ^ n) (pack_same f g n (λ i l. h i (omega arith))) (h n (omega arith))
 
 -- what only a tick that is shown leaves
-shown_same : {A : Type 0} (a : Answer) (x z y : A) → (a ≡ answer.Shown → x ≡ z) → if_shown a x y ≡ if_shown a z y
+shown_same : {A : Type 0} (a : Answer) (x z y : A) → (a ≡ Ok tt → x ≡ z) → if_shown a x y ≡ if_shown a z y
 shown_same {A} a x z y h = by (shown_or_not a)
   where
-    by : (a ≡ answer.Shown) ⊎ (is_shown a ≡ false) → if_shown a x y ≡ if_shown a z y
+    by : (a ≡ Ok tt) ⊎ (is_shown a ≡ false) → if_shown a x y ≡ if_shown a z y
     by (inl e) = when_shown a x y e ∙ h e ∙ sym (when_shown a z y e)
     by (inr e) = when_refused a x y e ∙ sym (when_refused a z y e)
 
@@ -68,7 +68,7 @@ module _ (s t : Set) (g : Agree s t) (slots : List ℕ) (state : State) (report 
       first_same _ _ _ _ _ (ap (λ (c : ℕ). leb (2 ^ c) report) n) (λ c. refl)
       (λ c.
       first_same _ _ _ _ _ (ap₂ (λ (x y : ℕ). some (high_slot x (row y)) y) n m)
-      (λ d. ap₂ (λ (x y : ℕ). answer.BadSlot (state.tick * y + least (high_slot x (row y)) y)) n m) (λ d. refl)))))
+      (λ d. ap₂ (λ (x y : ℕ). Err (error.BadSlot (state.tick * y + least (high_slot x (row y)) y))) n m) (λ d. refl)))))
 
   -- ---- a tick that is shown: none of its slots is above the task count
   same_releases : (i : ℕ) → i < u.count → releases u (cycle u) i state.tick ≡ releases w (cycle w) i state.tick
@@ -114,7 +114,7 @@ module _ (s t : Set) (g : Agree s t) (slots : List ℕ) (state : State) (report 
       ap₂ (λ (h d : ℕ). after_of h state d (ran_of (row_of (tick_of s slots state report)) u.count)) (cycle_agree s t g) same_done
       ∙ ap₂ (λ (r : List ℕ) (n : ℕ). after_of (cycle w) state (done_of (tick_of t slots state report)) (ran_of r n)) (same_row e) g.task_count
 
-  low_when_shown : (out : ℕ) → answer_of s slots state report out ≡ answer.Shown → is_high (tick_of s slots state report) ≡ false
+  low_when_shown : (out : ℕ) → answer_of s slots state report out ≡ Ok tt → is_high (tick_of s slots state report) ≡ false
   unfolding answer_of
   low_when_shown out e = (shown_kept _ _ _ (tick_of s slots state report) e).low
 

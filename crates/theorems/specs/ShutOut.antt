@@ -1,5 +1,5 @@
 -- What the theorems shut out: judges, screens and steps that would be of no use do not satisfy them, and ours do.
-use Rattle.std.specs.Prelude.{◌≡◌, true, false, List, [], ◌∷◌, ℕ, ◌^◌, ◌<◌, get_or, Option, Some, None}
+use Rattle.std.specs.Prelude.{◌≡◌, true, false, List, [], ◌∷◌, ℕ, ◌^◌, ◌<◌, get_or, Option, Some, None, Ok}
 use Rattle.std.proofs.Math.Path.{refl, ap}
 use Rattle.std.proofs.Common.{sym, ◌∙◌, arith}
 use Rattle.vocabulary.proofs.Test.{clash}
@@ -35,7 +35,6 @@ use Rattle.screen.specs.declared.Finding.TheVariants as finding
 use Rattle.screen.specs.Answers.{finding_number}
 use Rattle.screen.specs.Findings.{screen_rules, finding_by, finding_of}
 use Rattle.dispatcher.specs.declared.State.{State}
-use Rattle.dispatcher.specs.declared.Answer.TheVariants as answer
 use Rattle.dispatcher.specs.declared.Stepped.{Stepped}
 use Rattle.dispatcher.specs.Steps.{releases, heard, done_at, done_of, asleep, byte_of, row_of, stands_at, in_row, ran_of, after_of, step_of}
 use Rattle.dispatcher.specs.Refusals.{first_state, impossible, overreports, high_slot, is_high, high_place, step_rules, answer_by, if_shown, is_shown}
@@ -158,7 +157,7 @@ around = record { tick = 0; first = false; done = 0; ran = 1 }
 
 -- one step of the small plan: the answer, and the byte that is shown
 record Shows (state : State) (report byte : ℕ) (next : State) : Type 0 where
-  answer : stepped_of small full state report (0 ∷ []) ≡ record { answer = answer.Shown; state = next }
+  answer : stepped_of small full state report (0 ∷ []) ≡ record { answer = Ok tt; state = next }
   left : left_of small full state report (0 ∷ []) ≡ byte ∷ []
 
 -- the first step, the second with and without a report, and the third
@@ -188,7 +187,7 @@ module _ (step : Step) (right : RightStep step) where
   byte_is state report byte w = ap (λ (xs : List ℕ). get_or xs 0 0) ((right.keeps small full state report (0 ∷ [])).left ∙ w.left)
 
   answer_is : (state : State) (report byte : ℕ) (next : State) → Shows state report byte next
-      → (leaves state report).answer ≡ record { answer = answer.Shown; state = next }
+      → (leaves state report).answer ≡ record { answer = Ok tt; state = next }
   answer_is state report byte next w = (right.keeps small full state report (0 ∷ [])).answer ∙ w.answer
 
   -- ==== A step that keeps its contract does not leave every output as it is,

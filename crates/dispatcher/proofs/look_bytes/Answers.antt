@@ -9,13 +9,13 @@ pub lengths_fit-requires : goal.lengths_fit-requires
 lengths_fit-requires c = let p = c.requires in (p.narrow, p.short)
 
 pub returns-then-not-lengths_fit : goal.returns-then-not-lengths_fit
-returns-then-not-lengths_fit c = let a = c.args in c.refused.ensures ∙ wrong_lengths a.f a.attributes.now a.plan.now a.report a.state.now a.room (sym c.lengths_fit.ensures ∙ c.if-not-lengths_fit.true)
+returns-then-not-lengths_fit c = let a = c.args in wrong_lengths a.f a.attributes.now a.plan.now a.report a.state.now a.room (sym c.lengths_fit.ensures ∙ c.if-not-lengths_fit.true)
 
 pub returns-then-state-ne-BYTES : goal.returns-then-state-ne-BYTES
-returns-then-state-ne-BYTES c = let a = c.args in c.refused-then-state-ne-BYTES.ensures ∙ wrong_bytes a.f a.attributes.now a.plan.now a.report a.state.now a.room (sym c.lengths_fit.ensures ∙ c.if-not-lengths_fit.false) c.if-state-ne-BYTES.true
+returns-then-state-ne-BYTES c = let a = c.args in wrong_bytes a.f a.attributes.now a.plan.now a.report a.state.now a.room (sym c.lengths_fit.ensures ∙ c.if-not-lengths_fit.false) c.if-state-ne-BYTES.true
 
 pub returns-then-not-is_clear : goal.returns-then-not-is_clear
-returns-then-not-is_clear c = let a = c.args in c.refused-then-not-is_clear.ensures ∙ unclear_bytes a.f a.attributes.now a.plan.now a.report a.state.now a.room (sym c.lengths_fit.ensures ∙ c.if-not-lengths_fit.false) c.if-state-ne-BYTES.false (not-false _ (sym c.is_clear.ensures ∙ c.if-not-is_clear.true))
+returns-then-not-is_clear c = let a = c.args in unclear_bytes a.f a.attributes.now a.plan.now a.report a.state.now a.room (sym c.lengths_fit.ensures ∙ c.if-not-lengths_fit.false) c.if-state-ne-BYTES.false (not-false _ (sym c.is_clear.ensures ∙ c.if-not-is_clear.true))
 
 pub look_on-requires : goal.look_on-requires
 look_on-requires c = (c.requires, (lengths_right _ _ _ _ (sym c.lengths_fit.ensures ∙ c.if-not-lengths_fit.false)).0)

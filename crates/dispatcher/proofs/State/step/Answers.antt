@@ -1,8 +1,11 @@
-use Rattle.dispatcher.proofs.LookLaws.{room_for, outcome_by}
+use Rattle.dispatcher.proofs.LookLaws.{room_for, outcome_shown, outcome_refused}
 use Rattle.dispatcher.proofs.State.step.Goals as goal
 
-pub shown-requires : goal.shown-requires
-shown-requires c = λ a. room_for _ _ _ _ _ c.look_at-look.ensures a
+pub show_row-requires : goal.show_row-requires
+show_row-requires c = room_for _ _ _ _ _ c.in-Ok.ensures
 
-pub returns : goal.returns
-returns c = outcome_by _ _ _ _ _ c.look_at-look.ensures c.shown.ensures.0 c.shown.ensures.1
+pub returns-in-Ok : goal.returns-in-Ok
+returns-in-Ok c = outcome_shown _ _ _ _ _ c.in-Ok.ensures c.show_row.ensures
+
+pub returns-in-Err : goal.returns-in-Err
+returns-in-Err c = outcome_refused _ _ _ _ _ c.in-Err.ensures

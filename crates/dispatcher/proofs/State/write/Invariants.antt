@@ -1,4 +1,3 @@
-use Prim.Native.Nat.{◌-◌}
 use lib.ListN.{get_or}
 use Rattle.vocabulary.specs.Table.{Filling, is}
 use Rattle.dispatcher.specs.Bytes.{bytes_of}
@@ -6,6 +5,3 @@ use Rattle.dispatcher.proofs.State.write.Given as goal
 
 abbrev pub invariant-loop-k : goal.invariant-loop-k
 invariant-loop-k l = Filling (is (λ j. get_or (bytes_of l.self) j 0)) 21 l.k 0 l.out
-
-abbrev pub decreases-loop-k : goal.decreases-loop-k
-decreases-loop-k l = 21 - l.k

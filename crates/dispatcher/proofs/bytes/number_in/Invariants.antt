@@ -3,6 +3,3 @@ use Rattle.dispatcher.proofs.bytes.number_in.Given as goal
 
 abbrev pub invariant-loop-k : goal.invariant-loop-k
 invariant-loop-k l = Reading l.bytes l.at l.n l.k l.x
-
-abbrev pub decreases-loop-k : goal.decreases-loop-k
-decreases-loop-k l = l.k

@@ -8,12 +8,12 @@ returns-then-v-eq0 c = rw (eq-eqb _ _ c.if-v-eq0.true)
 
 pub returns-then-is_asleep : goal.returns-then-is_asleep
 unfolding byte_of asleep
-returns-then-is_asleep c = rw (ne_eqb _ _ c.if-v-eq0.false, ← c.is_asleep.ensures, c.if-is_asleep.true)
+returns-then-is_asleep c = rw (ne_eqb _ _ c.if-v-eq0.false, ← c.from-i.ensures, ← c.is_asleep.ensures, c.if-is_asleep.true)
 
 pub returns-then-is_marked : goal.returns-then-is_marked
 unfolding byte_of asleep
-returns-then-is_marked c = rw (ne_eqb _ _ c.if-v-eq0.false, ← c.is_asleep.ensures, c.if-is_asleep.false, ← c.is_marked.ensures, c.if-is_marked.true)
+returns-then-is_marked c = rw (ne_eqb _ _ c.if-v-eq0.false, ← c.from-i.ensures, ← c.is_asleep.ensures, c.if-is_asleep.false, ← c.is_marked.ensures, c.if-is_marked.true)
 
 pub returns : goal.returns
 unfolding byte_of asleep
-returns c = rw (ne_eqb _ _ c.if-v-eq0.false, ← c.is_asleep.ensures, c.if-is_asleep.false, ← c.is_marked.ensures, c.if-is_marked.false)
+returns c = rw (ne_eqb _ _ c.if-v-eq0.false, ← c.from-i.ensures, ← c.is_asleep.ensures, c.if-is_asleep.false, ← c.is_marked.ensures, c.if-is_marked.false)
