@@ -3,7 +3,6 @@
 #![tactic(auto)]
 
 use console::Line;
-use heads::Outcome;
 use kinds::{Attributes, Cycle, TaskSet};
 use screen::Adjusted;
 use std::io::Result;
@@ -33,29 +32,6 @@ fn print_job(rt: &impl Print, i: usize, k: usize, release: i32, deadline: i32) -
         .print(rt)
 }
 
-// The n jobs of task i, whose times stand from a place on; answers the place after them.
-fn print_jobs(
-    rt: &impl Print,
-    i: usize,
-    n: u32,
-    start: usize,
-    releases: &[i32],
-    deadlines: &[i32],
-) -> Result<usize> {
-    let mut x = start;
-    for k in 0..n {
-        if releases.len() <= x {
-            return Ok(x);
-        }
-        if deadlines.len() <= x {
-            return Ok(x);
-        }
-        print_job(rt, i, k as usize, releases[x], deadlines[x])?;
-        x += 1;
-    }
-    Ok(x)
-}
-
 // The jobs of the first n tasks in h ticks.
 fn print_times(
     rt: &impl Print,
@@ -65,13 +41,14 @@ fn print_times(
     releases: &[i32],
     deadlines: &[i32],
 ) -> Result<()> {
-    let mut x: usize = 0;
+    let mut times = releases.iter().zip(deadlines);
     for i in 0..n {
-        let t = kinds::task_at(attributes, i);
-        if t.period == 0 {
+        let Some(jobs) = h.checked_div(kinds::task_at(attributes, i).period) else {
             return Ok(());
+        };
+        for (k, (release, deadline)) in times.by_ref().take(jobs as usize).enumerate() {
+            print_job(rt, i, k, *release, *deadline)?;
         }
-        x = print_jobs(rt, i, h / t.period, x, releases, deadlines)?;
     }
     Ok(())
 }
@@ -104,17 +81,5 @@ fn print_adjusted(rt: &impl Print, set: TaskSet) -> Result<()> {
 }
 
 fn main(rt: HostRuntime) -> Result<()> {
-    let mut file = io::large_buffer();
-    let input = console::load(&rt, &mut file)?;
-    if !input.open {
-        return Ok(());
-    }
-    let n = input.length;
-    let loaded = reader::read(&file[..n]);
-    let outcome = loaded.outcome;
-    let set = loaded.set;
-    match outcome {
-        Outcome::Refused(r) => wording::print_refusal(&rt, r),
-        Outcome::At(_) => print_adjusted(&rt, set),
-    }
+    wording::with_plan(&rt, |_, _, set| print_adjusted(&rt, set))
 }

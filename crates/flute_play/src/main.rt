@@ -8,7 +8,6 @@ ghost use Rattle.dispatcher.specs.Bytes.{number};
 
 use console::Line;
 use dispatcher::{Answer, State};
-use heads::Outcome;
 use judge::Verdict;
 use kinds::TaskSet;
 use std::env::Env;
@@ -21,22 +20,14 @@ const REPORT: usize = 8;
 // How many bytes a step shows at most.
 const ROW: usize = TaskSet::MOST_PROCESSORS as usize;
 
-fn as_number(x: u8) -> u64
-    ensures { (result ≡ x) × (result < 256) }
-{
-    x as u64
-}
-
 // The report whose eight bytes begin at a place, from the highest byte down.
 fn report_at(bytes: &[u8], at: usize) -> u64
     requires { at + 8 ≤ length bytes.now }
     ensures { result ≡ number bytes.now at 8 }
 {
     let mut x: u64 = 0;
-    let mut k = REPORT;
-    while 0 < k {
-        x = x * 256 + as_number(bytes[at + (k - 1)]);
-        k -= 1;
+    for k in (0..REPORT).rev() {
+        x = x * 256 + u64::from(bytes[at + k]);
     }
     x
 }
@@ -53,7 +44,7 @@ fn report_of(reports: &[u8], k: usize) -> u64 {
 fn print_row(rt: &impl Print, k: usize, row: &[u8]) -> Result<()> {
     let mut line = Line::new().put_number(k as u64);
     for x in row {
-        line = line.put_named(b" ", as_number(*x));
+        line = line.put_named(b" ", u64::from(*x));
     }
     line.put(b"\n").print(rt)
 }
@@ -62,15 +53,15 @@ fn print_row(rt: &impl Print, k: usize, row: &[u8]) -> Result<()> {
 fn print_refused(rt: &impl Print, a: Answer) -> Result<()> {
     match a {
         Answer::Shown => Ok(()),
-        Answer::BadSet => verdicts::print_verdict(rt, Verdict::BadSet, 0),
-        Answer::WrongLength => verdicts::print_verdict(rt, Verdict::WrongLength, 0),
+        Answer::BadSet => verdicts::print_verdict(rt, Verdict::BadSet, None),
+        Answer::WrongLength => verdicts::print_verdict(rt, Verdict::WrongLength, None),
         Answer::BadState => Line::new()
             .put(b"30 the dispatcher's state is not possible\n")
             .print(rt),
         Answer::BadReport => Line::new()
             .put(b"31 a report has a bit at or above the task count\n")
             .print(rt),
-        Answer::BadSlot(e) => verdicts::print_verdict(rt, Verdict::BadSlot(e), 0),
+        Answer::BadSlot(e) => verdicts::print_verdict(rt, Verdict::BadSlot(e), None),
     }
 }
 
@@ -122,7 +113,7 @@ fn play_from(
     let mut row = [0u8; ROW];
     let m = set.processors as usize;
     if m <= ROW {
-        verdicts::print_verdict(rt, Verdict::Accepted, 0)?;
+        verdicts::print_verdict(rt, Verdict::Accepted, None)?;
         return play_steps(rt, set, plan, state, reports, steps, &mut row[..m]);
     }
     Ok(())
@@ -141,11 +132,9 @@ fn play_accepted<R: Files + Env + Print + Eprint + Alloc>(
         let f = kinds::counts_of(set);
         return play_from(rt, set, plan, state, b"", f.ticks as usize);
     }
-    let input = console::load_named(rt, 2, &mut reports)?;
-    if !input.open {
+    let Some(n) = console::load_named(rt, 2, &mut reports)? else {
         return Ok(());
-    }
-    let n = input.length;
+    };
     play_from(rt, set, plan, state, &reports[..n], n / REPORT)
 }
 
@@ -164,17 +153,5 @@ fn judge_and_play<R: Files + Env + Print + Eprint + Alloc>(
 }
 
 fn main(rt: HostRuntime) -> Result<()> {
-    let mut file = io::large_buffer();
-    let input = console::load(&rt, &mut file)?;
-    if !input.open {
-        return Ok(());
-    }
-    let n = input.length;
-    let loaded = place::plan_of(&file[..n]);
-    let outcome = loaded.outcome;
-    let set = loaded.set;
-    match outcome {
-        Outcome::Refused(r) => wording::print_refusal(&rt, r),
-        Outcome::At(_) => judge_and_play(&rt, set, place::slots_of(&file[..n])),
-    }
+    wording::with_plan(&rt, |file, _, set| judge_and_play(&rt, set, place::slots_of(file)))
 }
