@@ -32,7 +32,7 @@ fn report_at(bytes: &[u8], at: usize) -> u64
     x
 }
 
-// The report of step k; none where the reports end before it.
+// The report of step k; where the reports end before it, one with no bit.
 fn report_of(reports: &[u8], k: usize) -> u64 {
     if reports.len() / REPORT <= k {
         return 0;
@@ -79,44 +79,38 @@ fn print_step(rt: &impl Print, k: usize, a: Answer, row: &[u8]) -> Result<bool> 
     }
 }
 
-// Plays so many steps with the reports, as far as none is refused. The row has a byte a processor.
-fn play_steps(
-    rt: &impl Print,
+// What an accepted plan is played with: so many steps, each with its report.
+#[derive(Clone, Copy)]
+struct Play<'a> {
     set: TaskSet,
-    plan: &[u8],
-    start: State,
-    reports: &[u8],
+    plan: &'a [u8],
+    reports: &'a [u8],
     steps: usize,
-    row: &mut [u8],
-) -> Result<()> {
-    let mut state = start;
-    for k in 0..steps {
-        let r = state.step(set, plan, report_of(reports, k), row);
-        let answer = r.answer;
-        let next = r.state;
-        if !print_step(rt, k, answer, row)? {
-            return Ok(());
-        }
-        state = next;
-    }
-    Ok(())
 }
 
-fn play_from(
-    rt: &impl Print,
-    set: TaskSet,
-    plan: &[u8],
-    state: State,
-    reports: &[u8],
-    steps: usize,
-) -> Result<()> {
-    let mut row = [0u8; ROW];
-    let m = set.processors as usize;
-    if m <= ROW {
-        verdicts::print_verdict(rt, Verdict::Accepted, None)?;
-        return play_steps(rt, set, plan, state, reports, steps, &mut row[..m]);
+impl<'a> Play<'a> {
+    // Plays the steps from a state on, as far as none is refused. The row has a byte a processor.
+    fn play_from(&self, rt: &impl Print, start: State, row: &mut [u8]) -> Result<()> {
+        let mut state = start;
+        for k in 0..self.steps {
+            let r = state.step(self.set, self.plan, report_of(self.reports, k), row);
+            if !print_step(rt, k, r.answer, row)? {
+                return Ok(());
+            }
+            state = r.state;
+        }
+        Ok(())
     }
-    Ok(())
+
+    fn play(&self, rt: &impl Print, start: State) -> Result<()> {
+        let mut row = [0u8; ROW];
+        let m = self.set.processors as usize;
+        if ROW < m {
+            return Ok(());
+        }
+        verdicts::print_verdict(rt, Verdict::Accepted, None)?;
+        self.play_from(rt, start, &mut row[..m])
+    }
 }
 
 // Plays an accepted plan: one cycle, or as many steps as the second argument's file has reports for. That file is read as far as it fits a large
@@ -127,15 +121,26 @@ fn play_accepted<R: Files + Env + Print + Eprint + Alloc>(
     plan: &[u8],
     state: State,
 ) -> Result<()> {
-    let mut reports = io::large_buffer();
     if !console::has_arg(rt, 2) {
-        let f = kinds::counts_of(set);
-        return play_from(rt, set, plan, state, b"", f.ticks as usize);
+        let cycle = Play {
+            set,
+            plan,
+            reports: b"",
+            steps: kinds::counts_of(set).ticks as usize,
+        };
+        return cycle.play(rt, state);
     }
+    let mut reports = io::large_buffer();
     let Some(n) = console::load_named(rt, 2, &mut reports)? else {
         return Ok(());
     };
-    play_from(rt, set, plan, state, &reports[..n], n / REPORT)
+    let reported = Play {
+        set,
+        plan,
+        reports: &reports[..n],
+        steps: n / REPORT,
+    };
+    reported.play(rt, state)
 }
 
 fn judge_and_play<R: Files + Env + Print + Eprint + Alloc>(
@@ -145,9 +150,8 @@ fn judge_and_play<R: Files + Env + Print + Eprint + Alloc>(
 ) -> Result<()> {
     let started = State::new().start(set, plan);
     let verdict = started.verdict;
-    let state = started.state;
     match verdict {
-        Verdict::Accepted => play_accepted(rt, set, plan, state),
+        Verdict::Accepted => play_accepted(rt, set, plan, started.state),
         _ => verdicts::print_verdict(rt, verdict, verdicts::asked_of(verdict, &set.attributes)),
     }
 }
