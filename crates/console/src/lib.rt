@@ -1,7 +1,7 @@
 // What the programs share: the input that they are given, and lines of text.
 #![tactic(auto)]
 
-ghost use Rattle.std.specs.Prelude.{◌≡◌, IfOk, length};
+ghost use Rattle.std.specs.Prelude.{◌≡◌, IfOk, IfSome, length};
 ghost use Rattle.io.specs.Counts.{IsPrefixLen};
 ghost use Rattle.console.specs.Signed.{size_of};
 ghost use Rattle.console.specs.Lines.{put_byte, put_first, Continues};
@@ -10,13 +10,6 @@ use std::env::{Env, FillError};
 use std::fs;
 use std::fs::Files;
 use std::io::{Error, ErrorKind, Read, Result};
-
-// Whether the input could be opened, and how many of its bytes stand at the start of the buffer.
-#[derive(Clone, Copy)]
-pub struct Input {
-    pub open: bool,
-    pub length: usize,
-}
 
 // A line of text, as far as it is made. It goes by value from one function that adds to it to the next.
 #[derive(Clone, Copy)]
@@ -30,22 +23,17 @@ pub fn has_arg(rt: &impl Env, i: usize) -> bool {
     !matches!(rt.arg(i, &mut []), Err(FillError::NotPresent))
 }
 
-// Puts argument i at the start of buf and answers its length, or 0 where it is missing or longer than buf.
-fn arg(rt: &impl Env, i: usize, buf: &mut [u8]) -> usize
-    ensures { IsPrefixLen result buf.new }
-{
+// Puts argument i into buf and answers its bytes there, none where it is missing or longer than buf.
+fn arg<'a>(rt: &impl Env, i: usize, buf: &'a mut [u8]) -> &'a [u8] {
     match rt.arg(i, buf) {
-        Ok(n) => n,
-        Err(_) => io::count(0, buf),
+        Ok(n) => &buf[..n],
+        Err(_) => &[],
     }
 }
 
 // The text of a path: std wants it in UTF-8, and another path is refused like that of a file that cannot be opened.
 fn path_text(path: &[u8]) -> Result<&str> {
-    match str::from_utf8(path) {
-        Ok(text) => Ok(text),
-        Err(_) => Err(Error::new(ErrorKind::InvalidInput, "the name is not UTF-8")),
-    }
+    str::from_utf8(path).map_err(|_| Error::new(ErrorKind::InvalidInput, "the name is not UTF-8"))
 }
 
 fn open_read<R: Files>(rt: &R, path: &[u8]) -> Result<R::File> {
@@ -88,52 +76,42 @@ fn fail(rt: &(impl Eprint + Alloc), path: &[u8], error: Error) -> Result<()> {
     eprintln!(rt; "{path}: {words}")
 }
 
-// Reads the file that the first argument names, or standard input where there is none, into buf. A file that cannot be opened gets a line on
-// standard error; a read that fails ends it with its error.
+// Reads the file that the first argument names, or standard input where there is none, into buf, and answers how many of its bytes now stand at the
+// start. A file that cannot be opened gets a line on standard error and answers none; a read that fails ends it with its error.
 pub fn load<R: Files + Env + std::io::Input + Eprint + Alloc>(
     rt: &R,
     buf: &mut [u8],
-) -> Result<Input>
+) -> Result<Option<usize>>
     ensures kept { length buf.new ≡ length buf.old }
-    ensures ok { IfOk result (λ input. IsPrefixLen input.length buf.new) }
+    ensures ok { IfOk result (λ read. IfSome read (λ n. IsPrefixLen n buf.new)) }
 {
-    if !has_arg(rt, 1) {
-        let n = read_full(&mut rt.reader(), buf)?;
-        return Ok(Input {
-            open: true,
-            length: n,
-        });
+    if has_arg(rt, 1) {
+        return load_named(rt, 1, buf);
     }
-    load_named(rt, 1, buf)
+    let n = read_full(&mut rt.reader(), buf)?;
+    Ok(Some(n))
 }
 
-// Reads the file that argument i names into buf.
+// Reads the file that argument i names into buf, as `load` does.
 pub fn load_named<R: Files + Env + Eprint + Alloc>(
     rt: &R,
     i: usize,
     buf: &mut [u8],
-) -> Result<Input>
+) -> Result<Option<usize>>
     ensures kept { length buf.new ≡ length buf.old }
-    ensures ok { IfOk result (λ input. IsPrefixLen input.length buf.new) }
+    ensures ok { IfOk result (λ read. IfSome read (λ n. IsPrefixLen n buf.new)) }
 {
-    let mut path = io::buffer();
-    let k = arg(rt, i, &mut path);
-    let mut file = match open_read(rt, &path[..k]) {
+    let mut name = io::buffer();
+    let path = arg(rt, i, &mut name);
+    let mut file = match open_read(rt, path) {
         Ok(file) => file,
         Err(e) => {
-            fail(rt, &path[..k], e)?;
-            let none = io::count(0, buf);
-            return Ok(Input {
-                open: false,
-                length: none,
-            });
+            fail(rt, path, e)?;
+            return Ok(None);
         }
     };
     let n = read_full(&mut file, buf)?;
-    Ok(Input {
-        open: true,
-        length: n,
-    })
+    Ok(Some(n))
 }
 
 // Writes bytes to the file that argument i names, in place of what it held, and says whether that was done. A file that cannot be written gets a line on
@@ -143,32 +121,22 @@ pub fn save_named(
     i: usize,
     bytes: &[u8],
 ) -> Result<bool> {
-    let mut path = io::buffer();
-    let k = arg(rt, i, &mut path);
-    match overwrite(rt, &path[..k], bytes) {
+    let mut name = io::buffer();
+    let path = arg(rt, i, &mut name);
+    match overwrite(rt, path, bytes) {
         Ok(()) => Ok(true),
         Err(e) => {
-            fail(rt, &path[..k], e)?;
+            fail(rt, path, e)?;
             Ok(false)
         }
     }
-}
-
-// How many bytes of a text count, at most all.
-fn within(n: usize, text: &[u8]) -> usize
-    ensures { IsPrefixLen result text.now }
-{
-    if n <= text.len() { n } else { text.len() }
 }
 
 // A number without its sign.
 fn size_of(x: i32) -> u64
     ensures { result ≡ size_of x }
 {
-    if x < 0 {
-        return (!x) as u64 + 1;
-    }
-    x as u64
+    u64::from(x.unsigned_abs())
 }
 
 impl Line {
@@ -202,10 +170,8 @@ impl Line {
         ensures { result ≡ put_first self words.now (length words.now) }
     {
         let mut line = self;
-        let mut i: usize = 0;
-        while i < words.len() {
-            line = line.put_byte(words[i]);
-            i += 1;
+        for x in words {
+            line = line.put_byte(*x);
         }
         line
     }
@@ -214,7 +180,7 @@ impl Line {
     pub fn put_first(self, words: &[u8], n: usize) -> Line
         ensures { Continues self result }
     {
-        let k = within(n, words);
+        let k = n.min(words.len());
         self.put(&words[..k])
     }
 
@@ -250,13 +216,10 @@ impl Line {
         ensures { Continues self result }
     {
         let mut line = self;
-        let mut i = other.length;
-        while i < width {
+        for _ in other.length..width {
             line = line.put_byte(b' ');
-            i += 1;
         }
-        let text = other.text;
-        line.put_first(&text, other.length)
+        line.put(other.bytes())
     }
 
     // With a number in a column of some width.
@@ -273,9 +236,12 @@ impl Line {
         self.put_right(Line::new().put_signed(x), width)
     }
 
+    // The bytes that stand in the line.
+    fn bytes(&self) -> &[u8] {
+        &self.text[..self.length.min(Line::LONGEST)]
+    }
+
     pub fn print(self, rt: &impl Print) -> Result<()> {
-        let text = self.text;
-        let n = within(self.length, &text);
-        rt.write_all(&text[..n])
+        rt.write_all(self.bytes())
     }
 }

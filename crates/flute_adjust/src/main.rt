@@ -3,7 +3,6 @@
 #![tactic(auto)]
 
 use console::Line;
-use heads::Outcome;
 use kinds::{Attributes, Cycle, TaskSet};
 use screen::Unadjusted;
 use std::io::Error;
@@ -25,41 +24,12 @@ fn print_answer(rt: &impl Print, a: Result<(), Unadjusted>, jobs: usize) -> Resu
     put_answer(line, a, jobs).put(b"\n").print(rt)
 }
 
-fn print_job(
-    rt: &impl Print,
-    i: usize,
-    k: usize,
-    release: i32,
-    deadline: i32,
-) -> Result<(), Error> {
+fn print_job(rt: &impl Print, i: usize, k: usize, release: i32, deadline: i32) -> Result<(), Error> {
     let line = Line::new().put_column(i as u64, 2).put_column(k as u64, 5);
     line.put_signed_column(release, 7)
         .put_signed_column(deadline, 10)
         .put(b"\n")
         .print(rt)
-}
-
-// The n jobs of task i, whose times stand from a place on; answers the place after them.
-fn print_jobs(
-    rt: &impl Print,
-    i: usize,
-    n: u32,
-    start: usize,
-    releases: &[i32],
-    deadlines: &[i32],
-) -> Result<usize, Error> {
-    let mut x = start;
-    for k in 0..n {
-        if releases.len() <= x {
-            return Ok(x);
-        }
-        if deadlines.len() <= x {
-            return Ok(x);
-        }
-        print_job(rt, i, k as usize, releases[x], deadlines[x])?;
-        x += 1;
-    }
-    Ok(x)
 }
 
 // The jobs of the first n tasks in h ticks.
@@ -71,13 +41,14 @@ fn print_times(
     releases: &[i32],
     deadlines: &[i32],
 ) -> Result<(), Error> {
-    let mut x: usize = 0;
+    let mut times = releases.iter().zip(deadlines);
     for i in 0..n {
-        let t = kinds::task_at(attributes, i);
-        if t.period == 0 {
+        let Some(jobs) = h.checked_div(kinds::task_at(attributes, i).period) else {
             return Ok(());
+        };
+        for (k, (release, deadline)) in times.by_ref().take(jobs as usize).enumerate() {
+            print_job(rt, i, k, *release, *deadline)?;
         }
-        x = print_jobs(rt, i, h / t.period, x, releases, deadlines)?;
     }
     Ok(())
 }
@@ -95,7 +66,7 @@ fn print_by(
     if a.is_err() {
         return Ok(());
     }
-    print_times(rt, &set.attributes, set.tasks, h, releases, deadlines)
+    print_times(rt, &set.tables.attributes, set.tasks, h, releases, deadlines)
 }
 
 fn print_adjusted(rt: &impl Print, set: TaskSet) -> Result<(), Error> {
@@ -112,17 +83,5 @@ fn print_adjusted(rt: &impl Print, set: TaskSet) -> Result<(), Error> {
 }
 
 fn main(rt: HostRuntime) -> Result<(), Error> {
-    let mut file = io::large_buffer();
-    let input = console::load(&rt, &mut file)?;
-    if !input.open {
-        return Ok(());
-    }
-    let n = input.length;
-    let loaded = reader::read(&file[..n]);
-    let outcome = loaded.outcome;
-    let set = loaded.set;
-    match outcome {
-        Outcome::Refused(r) => wording::print_refusal(&rt, r),
-        Outcome::At(_) => print_adjusted(&rt, set),
-    }
+    wording::with_plan(&rt, |_, _, set| print_adjusted(&rt, set))
 }

@@ -6,7 +6,6 @@
 ghost use Rattle.std.specs.Prelude.{◌≡◌, true, ◌↔◌};
 
 use console::Line;
-use heads::Outcome;
 use kinds::TaskSet;
 use std::env::Env;
 use std::fs::Files;
@@ -60,22 +59,6 @@ fn write_anew(
     }
 }
 
-fn copy(rt: &(impl Files + Env + Print + Eprint + Alloc), file: &[u8], set: TaskSet) -> Result<()> {
-    write_anew(rt, file, set, place::slots_of(file))
-}
-
 fn main(rt: HostRuntime) -> Result<()> {
-    let mut file = io::large_buffer();
-    let input = console::load(&rt, &mut file)?;
-    if !input.open {
-        return Ok(());
-    }
-    let n = input.length;
-    let loaded = place::plan_of(&file[..n]);
-    let outcome = loaded.outcome;
-    let set = loaded.set;
-    match outcome {
-        Outcome::Refused(r) => wording::print_refusal(&rt, r),
-        Outcome::At(_) => copy(&rt, &file[..n], set),
-    }
+    wording::with_plan(&rt, |file, _, set| write_anew(&rt, file, set, place::slots_of(file)))
 }

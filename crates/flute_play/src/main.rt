@@ -8,7 +8,6 @@ ghost use Rattle.dispatcher.specs.Bytes.{number};
 
 use console::Line;
 use dispatcher::{State, StepError};
-use heads::Outcome;
 use judge::Verdict;
 use kinds::TaskSet;
 use std::env::Env;
@@ -21,27 +20,19 @@ const REPORT: usize = 8;
 // How many bytes a step shows at most.
 const ROW: usize = TaskSet::MOST_PROCESSORS as usize;
 
-fn as_number(x: u8) -> u64
-    ensures { (result ≡ x) × (result < 256) }
-{
-    x as u64
-}
-
 // The report whose eight bytes begin at a place, from the highest byte down.
 fn report_at(bytes: &[u8], at: usize) -> u64
     requires { at + 8 ≤ length bytes.now }
     ensures { result ≡ number bytes.now at 8 }
 {
     let mut x: u64 = 0;
-    let mut k = REPORT;
-    while 0 < k {
-        x = x * 256 + as_number(bytes[at + (k - 1)]);
-        k -= 1;
+    for k in (0..REPORT).rev() {
+        x = x * 256 + u64::from(bytes[at + k]);
     }
     x
 }
 
-// The report of step k; none where the reports end before it.
+// The report of step k; where the reports end before it, one with no bit.
 fn report_of(reports: &[u8], k: usize) -> u64 {
     if reports.len() / REPORT <= k {
         return 0;
@@ -53,7 +44,7 @@ fn report_of(reports: &[u8], k: usize) -> u64 {
 fn print_row(rt: &impl Print, k: usize, row: &[u8]) -> Result<()> {
     let mut line = Line::new().put_number(k as u64);
     for x in row {
-        line = line.put_named(b" ", as_number(*x));
+        line = line.put_named(b" ", u64::from(*x));
     }
     line.put(b"\n").print(rt)
 }
@@ -61,55 +52,51 @@ fn print_row(rt: &impl Print, k: usize, row: &[u8]) -> Result<()> {
 // The line for a step that is refused; three of its refusals are the judge's too.
 fn print_refused(rt: &impl Print, e: StepError) -> Result<()> {
     match e {
-        StepError::BadSet => verdicts::print_verdict(rt, Verdict::BadSet, 0),
-        StepError::WrongLength => verdicts::print_verdict(rt, Verdict::WrongLength, 0),
+        StepError::BadSet => verdicts::print_verdict(rt, Verdict::BadSet, None),
+        StepError::WrongLength => verdicts::print_verdict(rt, Verdict::WrongLength, None),
         StepError::BadState => Line::new()
             .put(b"30 the dispatcher's state is not possible\n")
             .print(rt),
         StepError::BadReport => Line::new()
             .put(b"31 a report has a bit at or above the task count\n")
             .print(rt),
-        StepError::BadSlot(at) => verdicts::print_verdict(rt, Verdict::BadSlot(at), 0),
+        StepError::BadSlot(at) => verdicts::print_verdict(rt, Verdict::BadSlot(at), None),
     }
 }
 
-// Plays so many steps with the reports, as far as none is refused. The row has a byte a processor.
-fn play_steps(
-    rt: &impl Print,
+// What an accepted plan is played with: so many steps, each with its report.
+#[derive(Clone, Copy)]
+struct Play<'a> {
     set: TaskSet,
-    plan: &[u8],
-    start: State,
-    reports: &[u8],
+    plan: &'a [u8],
+    reports: &'a [u8],
     steps: usize,
-    row: &mut [u8],
-) -> Result<()> {
-    let mut state = start;
-    for k in 0..steps {
-        let r = state.step(set, plan, report_of(reports, k), row);
-        if let Err(e) = r.answer {
-            return print_refused(rt, e);
+}
+
+impl<'a> Play<'a> {
+    // Plays the steps from a state on, as far as none is refused. The row has a byte a processor.
+    fn play_from(&self, rt: &impl Print, start: State, row: &mut [u8]) -> Result<()> {
+        let mut state = start;
+        for k in 0..self.steps {
+            let r = state.step(self.set, self.plan, report_of(self.reports, k), row);
+            if let Err(e) = r.answer {
+                return print_refused(rt, e);
+            }
+            print_row(rt, k, row)?;
+            state = r.state;
         }
-        print_row(rt, k, row)?;
-        state = r.state;
+        Ok(())
     }
-    Ok(())
-}
 
-fn play_from(
-    rt: &impl Print,
-    set: TaskSet,
-    plan: &[u8],
-    state: State,
-    reports: &[u8],
-    steps: usize,
-) -> Result<()> {
-    let mut row = [0u8; ROW];
-    let m = set.processors as usize;
-    if m <= ROW {
-        verdicts::print_verdict(rt, Verdict::Accepted, 0)?;
-        return play_steps(rt, set, plan, state, reports, steps, &mut row[..m]);
+    fn play(&self, rt: &impl Print, start: State) -> Result<()> {
+        let mut row = [0u8; ROW];
+        let m = self.set.processors as usize;
+        if ROW < m {
+            return Ok(());
+        }
+        verdicts::print_verdict(rt, Verdict::Accepted, None)?;
+        self.play_from(rt, start, &mut row[..m])
     }
-    Ok(())
 }
 
 // Plays an accepted plan: one cycle, or as many steps as the second argument's file has reports for. That file is read as far as it fits a large
@@ -120,19 +107,29 @@ fn play_accepted<R: Files + Env + Print + Eprint + Alloc>(
     plan: &[u8],
     state: State,
 ) -> Result<()> {
-    let mut reports = io::large_buffer();
     if !console::has_arg(rt, 2) {
         let Some(f) = kinds::counts_of(set) else {
             return Ok(());
         };
-        return play_from(rt, set, plan, state, b"", f.ticks as usize);
+        let cycle = Play {
+            set,
+            plan,
+            reports: b"",
+            steps: f.ticks as usize,
+        };
+        return cycle.play(rt, state);
     }
-    let input = console::load_named(rt, 2, &mut reports)?;
-    if !input.open {
+    let mut reports = io::large_buffer();
+    let Some(n) = console::load_named(rt, 2, &mut reports)? else {
         return Ok(());
-    }
-    let n = input.length;
-    play_from(rt, set, plan, state, &reports[..n], n / REPORT)
+    };
+    let reported = Play {
+        set,
+        plan,
+        reports: &reports[..n],
+        steps: n / REPORT,
+    };
+    reported.play(rt, state)
 }
 
 fn judge_and_play<R: Files + Env + Print + Eprint + Alloc>(
@@ -142,25 +139,12 @@ fn judge_and_play<R: Files + Env + Print + Eprint + Alloc>(
 ) -> Result<()> {
     let started = State::new().start(set, plan);
     let verdict = started.verdict;
-    let state = started.state;
     match verdict {
-        Verdict::Accepted => play_accepted(rt, set, plan, state),
-        _ => verdicts::print_verdict(rt, verdict, verdicts::asked_of(verdict, &set.attributes)),
+        Verdict::Accepted => play_accepted(rt, set, plan, started.state),
+        _ => verdicts::print_verdict(rt, verdict, verdicts::asked_of(verdict, &set.tables.attributes)),
     }
 }
 
 fn main(rt: HostRuntime) -> Result<()> {
-    let mut file = io::large_buffer();
-    let input = console::load(&rt, &mut file)?;
-    if !input.open {
-        return Ok(());
-    }
-    let n = input.length;
-    let loaded = place::plan_of(&file[..n]);
-    let outcome = loaded.outcome;
-    let set = loaded.set;
-    match outcome {
-        Outcome::Refused(r) => wording::print_refusal(&rt, r),
-        Outcome::At(_) => judge_and_play(&rt, set, place::slots_of(&file[..n])),
-    }
+    wording::with_plan(&rt, |file, _, set| judge_and_play(&rt, set, place::slots_of(file)))
 }

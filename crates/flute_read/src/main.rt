@@ -3,7 +3,6 @@
 #![tactic(auto)]
 
 use console::Line;
-use heads::Outcome;
 use kinds::{Headings, Pair, Pairs, Pattern, TaskSet};
 use std::io::Result;
 
@@ -16,15 +15,11 @@ fn print_pair(rt: &impl Print, p: Pair) -> Result<()> {
 
 // The n pairs from a place on; answers the place after them.
 fn print_pairs(rt: &impl Print, pairs: &Pairs, start: usize, n: u32) -> Result<usize> {
-    let mut x = start;
-    for _ in 0..n {
-        if TaskSet::MOST_PAIRS <= x {
-            return Ok(x);
-        }
+    let end = start.saturating_add(n as usize).min(TaskSet::MOST_PAIRS);
+    for x in start..end {
         print_pair(rt, kinds::pair_at(pairs, x))?;
-        x += 1;
     }
-    Ok(x)
+    Ok(end)
 }
 
 fn print_pattern(rt: &impl Print, k: usize, p: Pattern) -> Result<()> {
@@ -52,26 +47,14 @@ fn print_set(rt: &impl Print, place: usize, set: TaskSet) -> Result<()> {
         return Ok(());
     };
     wording::print_read(rt, place, f)?;
-    wording::print_tasks(rt, &set.attributes, set.tasks, false)?;
+    wording::print_tasks(rt, &set.tables.attributes, set.tasks, false)?;
     let k = set.patterns;
     if k == 0 {
         return Ok(());
     }
-    print_patterns(rt, &set.headings, &set.pairs, k)
+    print_patterns(rt, &set.tables.headings, &set.tables.pairs, k)
 }
 
 fn main(rt: HostRuntime) -> Result<()> {
-    let mut file = io::large_buffer();
-    let input = console::load(&rt, &mut file)?;
-    if !input.open {
-        return Ok(());
-    }
-    let n = input.length;
-    let loaded = reader::read(&file[..n]);
-    let outcome = loaded.outcome;
-    let set = loaded.set;
-    match outcome {
-        Outcome::Refused(r) => wording::print_refusal(&rt, r),
-        Outcome::At(place) => print_set(&rt, place, set),
-    }
+    wording::with_plan(&rt, |_, place, set| print_set(&rt, place, set))
 }

@@ -2,20 +2,11 @@
 #![tactic(auto)]
 
 use console::Line;
-use heads::Outcome;
 use kinds::{Attributes, Cycle, TaskSet};
 use screen::Finding;
 use std::io::Result;
 
 const JOBS: usize = Cycle::MOST_JOBS as usize;
-
-// How many jobs a task of period t has in h ticks; 0 where t is no period.
-fn jobs_within(t: u32, h: u32) -> u32 {
-    if t == 0 {
-        return 0;
-    }
-    h / t
-}
 
 // The place of job k of task i among a cycle's jobs, by task, then job.
 fn place_of(attributes: &Attributes, h: u32, i: usize, k: u32) -> usize {
@@ -25,16 +16,10 @@ fn place_of(attributes: &Attributes, h: u32, i: usize, k: u32) -> usize {
             return x;
         }
         let t = kinds::task_at(attributes, j);
-        x += jobs_within(t.period, h) as usize;
+        // A period of 0, which no sound set has, has no jobs.
+        x += h.checked_div(t.period).unwrap_or(0) as usize;
     }
     x
-}
-
-fn time_at(times: &[i32], x: usize) -> i32 {
-    if times.len() <= x {
-        return 0;
-    }
-    times[x]
 }
 
 // The adjusted times of the job at place x, with a buffer for the releases and one for the deadlines.
@@ -45,13 +30,14 @@ fn put_times_by(
     releases: &mut [i32],
     deadlines: &mut [i32],
 ) -> Line {
-    // A refusal leaves the buffers as they are, and what stands there is shown.
-    let _ = screen::adjust(set, releases, deadlines);
-    let told = line
-        .put(b" between its adjusted release ")
-        .put_signed(time_at(releases, x));
-    told.put(b" and deadline ")
-        .put_signed(time_at(deadlines, x))
+    screen::adjust(set, releases, deadlines);
+    let (Some(release), Some(deadline)) = (releases.get(x), deadlines.get(x)) else {
+        return line;
+    };
+    line.put(b" between its adjusted release ")
+        .put_signed(*release)
+        .put(b" and deadline ")
+        .put_signed(*deadline)
 }
 
 fn put_times(line: Line, set: TaskSet, i: u32, k: u32) -> Line {
@@ -62,14 +48,14 @@ fn put_times(line: Line, set: TaskSet, i: u32, k: u32) -> Line {
     if JOBS < n {
         return line;
     }
-    let x = place_of(&set.attributes, f.ticks, i as usize, k);
+    let x = place_of(&set.tables.attributes, f.ticks, i as usize, k);
     let mut releases = [0i32; JOBS];
     let mut deadlines = [0i32; JOBS];
     put_times_by(line, set, x, &mut releases[..n], &mut deadlines[..n])
 }
 
 fn put_tight(line: Line, set: TaskSet, i: u32, k: u32) -> Line {
-    let t = kinds::task_at(&set.attributes, i as usize);
+    let t = kinds::task_at(&set.tables.attributes, i as usize);
     let told = wording::put_job(wording::put_two(line, i, k), i, k, b" cannot run ");
     put_times(
         wording::put_counted(told, t.running as u64, b" tick"),
@@ -102,17 +88,5 @@ fn print_finding(rt: &impl Print, set: TaskSet) -> Result<()> {
 }
 
 fn main(rt: HostRuntime) -> Result<()> {
-    let mut file = io::large_buffer();
-    let input = console::load(&rt, &mut file)?;
-    if !input.open {
-        return Ok(());
-    }
-    let n = input.length;
-    let loaded = reader::read(&file[..n]);
-    let outcome = loaded.outcome;
-    let set = loaded.set;
-    match outcome {
-        Outcome::Refused(r) => wording::print_refusal(&rt, r),
-        Outcome::At(_) => print_finding(&rt, set),
-    }
+    wording::with_plan(&rt, |_, _, set| print_finding(&rt, set))
 }

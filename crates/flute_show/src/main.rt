@@ -5,7 +5,6 @@
 ghost use Rattle.std.specs.Prelude.{◌+◌, ◌<◌, ◌≤◌, length};
 
 use console::Line;
-use heads::Outcome;
 use kinds::TaskSet;
 use std::io::Result;
 
@@ -19,10 +18,8 @@ fn print_numbers(rt: &impl Print, from: usize, n: usize) -> Result<()>
     requires { (n ≤ 60) × (from + n < 18446744073709551616) }
 {
     let mut line = Line::new().put(b"\n tick").put_column(from as u64, 10);
-    let mut k: usize = 10;
-    while k < n {
+    for k in (10..n).step_by(10) {
         line = line.put_column((from + k) as u64, 10);
-        k += 10;
     }
     line.put(b"\n").print(rt)
 }
@@ -42,10 +39,8 @@ fn print_processor(rt: &impl Print, block: &[u8], m: usize, q: usize) -> Result<
         .put(b" processor")
         .put_column(q as u64, 2)
         .put(b"  ");
-    let mut x = q;
-    while x < block.len() {
-        line = line.put_byte(wording::sign_of(block[x]));
-        x = end_of(x, m, block.len());
+    for slot in block.iter().skip(q).step_by(m) {
+        line = line.put_byte(wording::sign_of(*slot));
     }
     line.put(b"\n").print(rt)
 }
@@ -64,40 +59,24 @@ fn ticks_in(length: usize, m: usize) -> usize
     requires { 0 < m }
     ensures { (result ≤ 60) × (result ≤ length) }
 {
-    let n = length / m;
-    if n < TICKS { n } else { TICKS }
+    (length / m).min(TICKS)
 }
 
-// A part of the chart, whose slots begin at a place of the plan.
-fn print_block(rt: &impl Print, block: &[u8], m: usize, at: usize) -> Result<()>
-    requires { (0 < m) × (at + length block.now < 18446744073709551616) }
+// A part of the chart, which begins at tick from.
+fn print_block(rt: &impl Print, block: &[u8], m: usize, from: usize) -> Result<()>
+    requires { (0 < m) × (from + length block.now < 18446744073709551616) }
 {
     let n = ticks_in(block.len(), m);
-    print_numbers(rt, at / m, n)?;
+    print_numbers(rt, from, n)?;
     print_marks(rt, n)?;
     print_processors(rt, block, m)
-}
-
-// The place that lies size behind a place, at most the end.
-fn end_of(at: usize, size: usize, length: usize) -> usize
-    requires { (at < length) × (0 < size) }
-    ensures { (at < result) × (result ≤ length) }
-{
-    if length - at < size {
-        return length;
-    }
-    at + size
 }
 
 fn print_chart(rt: &impl Print, plan: &[u8], m: usize) -> Result<()>
     requires { (0 < m) × (m ≤ 8) }
 {
-    let size = m * TICKS;
-    let mut at: usize = 0;
-    while at < plan.len() {
-        let end = end_of(at, size, plan.len());
-        print_block(rt, &plan[at..end], m, at)?;
-        at = end;
+    for (i, block) in plan.chunks(m * TICKS).enumerate() {
+        print_block(rt, block, m, i * TICKS)?;
     }
     Ok(())
 }
@@ -107,7 +86,7 @@ fn show(rt: &impl Print, place: usize, set: TaskSet, plan: &[u8]) -> Result<()> 
         return Ok(());
     };
     wording::print_read(rt, place, f)?;
-    wording::print_tasks(rt, &set.attributes, set.tasks, true)?;
+    wording::print_tasks(rt, &set.tables.attributes, set.tasks, true)?;
     let m = set.processors as usize;
     if m == 0 {
         return Ok(());
@@ -119,17 +98,5 @@ fn show(rt: &impl Print, place: usize, set: TaskSet, plan: &[u8]) -> Result<()> 
 }
 
 fn main(rt: HostRuntime) -> Result<()> {
-    let mut file = io::large_buffer();
-    let input = console::load(&rt, &mut file)?;
-    if !input.open {
-        return Ok(());
-    }
-    let n = input.length;
-    let loaded = place::plan_of(&file[..n]);
-    let outcome = loaded.outcome;
-    let set = loaded.set;
-    match outcome {
-        Outcome::Refused(r) => wording::print_refusal(&rt, r),
-        Outcome::At(at) => show(&rt, at, set, place::slots_of(&file[..n])),
-    }
+    wording::with_plan(&rt, |file, place, set| show(&rt, place, set, place::slots_of(file)))
 }

@@ -9,18 +9,15 @@ use judge::Verdict;
 use kinds::Attributes;
 use std::io;
 
-// The ticks that a job with a wrong count asks for, of a set with these attributes; 0 for any other verdict.
+// The ticks that a job with a wrong count asks for, of a set with these attributes; none for any other verdict.
 #[tactic(auto, unfolding(crate::specs::Asked::asked_by))]
-pub fn asked_of(v: Verdict, attributes: &Attributes) -> u32
+pub fn asked_of(v: Verdict, attributes: &Attributes) -> Option<u32>
     ensures { result ≡ asked_by v attributes.now }
 {
-    match v {
-        Verdict::WrongCount(i, _, _, _, _) => {
-            let t = kinds::task_at(attributes, i as usize);
-            t.running
-        }
-        _ => 0,
-    }
+    let Verdict::WrongCount(i, ..) = v else {
+        return None;
+    };
+    Some(kinds::task_at(attributes, i as usize).running)
 }
 
 // Evidence of three numbers.
@@ -40,23 +37,25 @@ fn put_outside(line: Line, t: u32, q: u32) -> Line {
     told.put_named(b", processor ", q as u64)
 }
 
-fn put_miscount(line: Line, i: u32, k: u32, c: u32, asked: u32) -> Line {
-    let told = wording::put_job(line, i, k, b" gets ");
-    wording::put_counted(told, c as u64, b" tick").put_named(b", not ", asked as u64)
+fn put_miscount(line: Line, i: u32, k: u32, c: u32, asked: Option<u32>) -> Line {
+    let told = wording::put_counted(wording::put_job(line, i, k, b" gets "), c as u64, b" tick");
+    match asked {
+        Some(n) => told.put_named(b", not ", n as u64),
+        None => told,
+    }
 }
 
 // Where the c ticks of a job fell: the first at a, the last at b. With no tick both are its release.
 fn put_fell(line: Line, c: u32, a: u32, b: u32) -> Line {
-    if c == 0 {
-        return line
+    match c {
+        0 => line
             .put_named(b": none from its release at ", a as u64)
-            .put(b" on");
+            .put(b" on"),
+        1 => line.put_named(b": at ", a as u64),
+        _ => line
+            .put_named(b": from ", a as u64)
+            .put_named(b" to ", b as u64),
     }
-    if c == 1 {
-        return line.put_named(b": at ", a as u64);
-    }
-    line.put_named(b": from ", a as u64)
-        .put_named(b" to ", b as u64)
 }
 
 fn put_broken(line: Line, k: u32, q: u32, n: u32) -> Line {
@@ -66,7 +65,7 @@ fn put_broken(line: Line, k: u32, q: u32, n: u32) -> Line {
 }
 
 // A verdict's evidence, as far as there is some, and what it means.
-fn put_meaning(line: Line, v: Verdict, asked: u32) -> Line {
+fn put_meaning(line: Line, v: Verdict, asked: Option<u32>) -> Line {
     match v {
         Verdict::Accepted => line.put(b" accepted"),
         Verdict::BadSet => line.put(b" the task set is not sound"),
@@ -86,7 +85,7 @@ fn put_meaning(line: Line, v: Verdict, asked: u32) -> Line {
 }
 
 // The line for a verdict: number, evidence, words. A wrong count is told with the ticks that were asked for.
-pub fn print_verdict(rt: &impl Print, v: Verdict, asked: u32) -> io::Result<()> {
+pub fn print_verdict(rt: &impl Print, v: Verdict, asked: Option<u32>) -> io::Result<()> {
     let line = Line::new().put_number(judge::number_of(v) as u64);
     put_meaning(line, v, asked).put(b"\n").print(rt)
 }

@@ -6,10 +6,11 @@ ghost use Rattle.console.specs.Lines.{Continues};
 ghost use Rattle.wording.specs.Signs.{sign_of};
 
 use console::Line;
-use heads::Outcome;
 use kinds::{Attributes, Counts, Task, TaskSet};
 use numbers::Refusal;
-use std::io;
+use std::env::Env;
+use std::fs::Files;
+use std::io::Result;
 
 // Two numbers, each behind a blank.
 pub fn put_two(line: Line, a: u32, b: u32) -> Line
@@ -46,7 +47,7 @@ pub fn put_on_cycle(line: Line, i: u32, k: u32) -> Line
 }
 
 // The line for a file that was read: number, evidence (the place of the first slot), words.
-pub fn print_read(rt: &impl Print, place: usize, set: Counts) -> io::Result<()> {
+pub fn print_read(rt: &impl Print, place: usize, set: Counts) -> Result<()> {
     let mut line = Line::new()
         .put_named(b"0 ", place as u64)
         .put_named(b" read: edition ", set.edition as u64)
@@ -59,26 +60,47 @@ pub fn print_read(rt: &impl Print, place: usize, set: Counts) -> io::Result<()> 
 }
 
 // What a refusal of the reader means.
-fn put_reason(line: Line, r: Refusal) -> Line {
+fn reason_of(r: Refusal) -> &'static str {
     match r {
-        Refusal::Ends(_) => line.put(b" the file ends before a needed number or slot"),
-        Refusal::Malformed(_) => line.put(b" a number is not in its shortest form"),
-        Refusal::UnknownEdition => line.put(b" the edition is unknown"),
-        Refusal::OutOfLimits(_) => line.put(b" a number is outside the limits"),
-        Refusal::TooLong(_) => line.put(b" the cycle has over 6,000 ticks or over 2,048 jobs"),
-        Refusal::Disordered(_) => line.put(b" a pattern or pair is out of range or order"),
-        Refusal::TooManyLinks(_) => line.put(b" the cycle has over 4,096 links"),
-        Refusal::BadSlot(_) => line.put(b" a slot is above the task count"),
-        Refusal::LeftOver(_) => line.put(b" bytes are left over after the last slot"),
+        Refusal::Ends(_) => " the file ends before a needed number or slot",
+        Refusal::Malformed(_) => " a number is not in its shortest form",
+        Refusal::UnknownEdition => " the edition is unknown",
+        Refusal::OutOfLimits(_) => " a number is outside the limits",
+        Refusal::TooLong(_) => " the cycle has over 6,000 ticks or over 2,048 jobs",
+        Refusal::Disordered(_) => " a pattern or pair is out of range or order",
+        Refusal::TooManyLinks(_) => " the cycle has over 4,096 links",
+        Refusal::BadSlot(_) => " a slot is above the task count",
+        Refusal::LeftOver(_) => " bytes are left over after the last slot",
     }
 }
 
 // The line for a file that the reader refuses: number, evidence, words.
-pub fn print_refusal(rt: &impl Print, r: Refusal) -> io::Result<()> {
-    let o = Outcome::Refused(r);
-    let mut line = Line::new().put_number(reader::number_of(o) as u64);
-    line = line.put_named(b" ", reader::evidence_of(o) as u64);
-    put_reason(line, r).put(b"\n").print(rt)
+pub fn print_refusal(rt: &impl Print, r: Refusal) -> Result<()> {
+    let o = Err(r);
+    Line::new()
+        .put_number(reader::number_of(o) as u64)
+        .put_named(b" ", reader::evidence_of(o) as u64)
+        .put(reason_of(r).as_bytes())
+        .put(b"\n")
+        .print(rt)
+}
+
+// Reads the plan file that the first argument names, or standard input, and hands its bytes, the place of its first slot and its task set to what the
+// program does with them. A file that cannot be opened or that the reader refuses gets its line, and nothing else is done.
+pub fn with_plan<
+    R: Files + Env + std::io::Input + Print + Eprint + Alloc,
+    F: FnOnce(&[u8], usize, TaskSet) -> Result<()>,
+>(rt: &R, then: F) -> Result<()>
+    requires { F.IsAlwaysCallable then }
+{
+    let mut file = io::large_buffer();
+    let Some(n) = console::load(rt, &mut file)? else {
+        return Ok(());
+    };
+    match reader::read(&file[..n]) {
+        Err(r) => print_refusal(rt, r),
+        Ok(loaded) => then(&file[..n], loaded.first_slot, loaded.set),
+    }
 }
 
 // The sign of a slot, where task i is shown by slot i + 1: 64 tasks need more than digits and letters.
@@ -86,79 +108,62 @@ pub fn print_refusal(rt: &impl Print, r: Refusal) -> io::Result<()> {
 pub fn sign_of(slot: u8) -> u8
     ensures { result ≡ sign_of slot }
 {
-    if slot == 0 {
-        return b'.';
+    match slot {
+        0 => b'.',
+        1..10 => b'0' + slot,
+        10..36 => b'a' + (slot - 10),
+        36..62 => b'A' + (slot - 36),
+        62 => b'#',
+        63 => b'@',
+        _ => b'%',
     }
-    if slot < 10 {
-        return b'0' + slot;
-    }
-    if slot < 36 {
-        return b'a' + (slot - 10);
-    }
-    if slot < 62 {
-        return b'A' + (slot - 36);
-    }
-    if slot == 62 {
-        return b'#';
-    }
-    if slot == 63 {
-        return b'@';
-    }
-    b'%'
 }
 
-// A column of the tasks, as wide as its name: the name in the first line, a number in the others.
-fn put_cell(line: Line, named: bool, name: &[u8], x: u64) -> Line {
-    if named {
-        return line.put(name);
-    }
-    line.put_column(x, name.len())
-}
-
-// The names of the columns, or task i in them.
-fn put_cells(named: bool, i: usize, t: Task) -> Line {
-    let mut line = put_cell(Line::new(), named, b" task", i as u64);
-    line = put_cell(line, named, b"  period", t.period as u64);
-    line = put_cell(line, named, b"  running", t.running as u64);
-    line = put_cell(line, named, b"  offset", t.offset as u64);
-    put_cell(line, named, b"  deadline", t.deadline as u64)
-}
+// The columns of the tasks, each as wide as its name.
+const COLUMNS: [&str; 5] = [" task", "  period", "  running", "  offset", "  deadline"];
 
 // The names of the columns, with one for the signs where they are asked for.
-fn print_names(rt: &impl Print, first: Task, signed: bool) -> io::Result<()> {
-    let names = put_cells(true, 0, first);
+fn print_names(rt: &impl Print, signed: bool) -> Result<()> {
+    let mut names = Line::new();
+    for name in COLUMNS {
+        names = names.put(name.as_bytes());
+    }
     if signed {
-        return names.put(b"  sign\n").print(rt);
+        names = names.put(b"  sign");
     }
     names.put(b"\n").print(rt)
 }
 
-fn print_task(rt: &impl Print, i: usize, t: Task, signed: bool) -> io::Result<()>
+// Task i in the columns.
+fn row_of(i: usize, t: Task) -> Line {
+    let numbers = [
+        i as u64,
+        u64::from(t.period),
+        u64::from(t.running),
+        u64::from(t.offset),
+        u64::from(t.deadline),
+    ];
+    let mut row = Line::new();
+    for (name, x) in COLUMNS.iter().zip(numbers) {
+        row = row.put_column(x, name.len());
+    }
+    row
+}
+
+fn print_task(rt: &impl Print, i: usize, t: Task, signed: bool) -> Result<()>
     requires { i < 64 }
 {
-    let row = put_cells(false, i, t);
+    let mut row = row_of(i, t);
     if signed {
-        return row
-            .put(b"     ")
-            .put_byte(sign_of((i + 1) as u8))
-            .put(b"\n")
-            .print(rt);
+        row = row.put(b"     ").put_byte(sign_of((i + 1) as u8));
     }
     row.put(b"\n").print(rt)
 }
 
 // The names of the columns, and a line for each of the first n tasks.
-pub fn print_tasks(
-    rt: &impl Print,
-    attributes: &Attributes,
-    n: usize,
-    signed: bool,
-) -> io::Result<()> {
-    print_names(rt, kinds::task_at(attributes, 0), signed)?;
-    for i in 0..n {
-        if TaskSet::MOST_TASKS <= i {
-            return Ok(());
-        }
+pub fn print_tasks(rt: &impl Print, attributes: &Attributes, n: usize, signed: bool) -> Result<()> {
+    print_names(rt, signed)?;
+    for i in 0..n.min(TaskSet::MOST_TASKS) {
         print_task(rt, i, kinds::task_at(attributes, i), signed)?;
     }
     Ok(())

@@ -1,5 +1,5 @@
-use Rattle.std.proofs.Common.{arith}
-use Rattle.dispatcher.proofs.ByteLoops.{read_from, read_room, read_on, read_end}
+use Rattle.std.proofs.Common.{arith, rules, ◌<◌, ◌≡◌, ◌+◌, ◌-◌, get_or}
+use Rattle.dispatcher.proofs.ByteLoops.{read_from, read_room, read_on}
 use Rattle.flute_play.proofs.report_at.Goals as goal
 
 pub loop-k-init : goal.loop-k-init
@@ -10,11 +10,11 @@ overflow_mul-x c = omega (arith, read_room _ _ _ _ _ 0 c.loop-k.invariant c.loop
 
 pub overflow_add-x : goal.overflow_add-x
 overflow_add-x c =
-    record { fits = read_room _ _ _ _ _ _ c.loop-k.invariant c.loop-k-test.true (omega arith) c.as_number.ensures.1 }
+    let b : c.from.result < 256 = search rules in
+    record { fits = read_room _ _ _ _ _ _ c.loop-k.invariant c.loop-k-test.true (omega arith) b }
 
 pub loop-k-preserved : goal.loop-k-preserved
 loop-k-preserved c =
-    read_on _ _ _ _ _ _ c.loop-k.invariant c.loop-k-test.true c.as_number.ensures.0 c.as_number.ensures.1
-
-pub returns : goal.returns
-returns c = (read_end _ _ _ _ _ c.loop-k.invariant c.loop-k-test.false).0
+    let b : c.from.result < 256 = search rules in
+    let e : c.from.result ≡ get_or c.args.bytes.now (c.args.at + (c.loop-k.k - 1)) 0 = search rules in
+    read_on _ _ _ _ _ _ c.loop-k.invariant c.loop-k-test.true e b

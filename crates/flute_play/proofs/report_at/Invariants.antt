@@ -4,6 +4,3 @@ use Rattle.flute_play.proofs.report_at.Given as goal
 -- The bytes from k on are read.
 abbrev pub invariant-loop-k : goal.invariant-loop-k
 invariant-loop-k l = Reading l.bytes l.at 8 l.k l.x
-
-abbrev pub decreases-loop-k : goal.decreases-loop-k
-decreases-loop-k l = l.k

@@ -1,5 +1,8 @@
-use Rattle.console.specs.Lines.{continues_on, by_byte}
+use Rattle.console.specs.Lines.{by_words, continues_on, by_byte}
 use Rattle.console.proofs.Line.put_right.Goals as goal
 
-pub loop-i-preserved : goal.loop-i-preserved
-loop-i-preserved c = continues_on c.loop-i.invariant (by_byte _ c.put_byte-line.ensures)
+pub loop-preserved : goal.loop-preserved
+loop-preserved c = continues_on c.loop.invariant (by_byte _ c.put_byte-line.ensures)
+
+pub returns : goal.returns
+returns c = continues_on c.loop.invariant (by_words _ _ c.put.ensures)
