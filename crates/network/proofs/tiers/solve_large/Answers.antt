@@ -8,7 +8,7 @@ pub slice_bounds-expand-end : goal.slice_bounds-expand-end
 slice_bounds-expand-end c = refl
 
 pub expand-e-requires : goal.expand-e-requires
-expand-e-requires c = expand_asked _ _ _ _ _ _ c.requires _ refl
+expand-e-requires c = expand_asked _ _ _ _ c.requires _ refl
 
 pub slice_bounds-links-end : goal.slice_bounds-links-end
 slice_bounds-links-end c = omega (arith, c.expand-e.ensures.few, c.requires.links)
@@ -29,7 +29,7 @@ pub slice_bounds-solve_in-end-3 : goal.slice_bounds-solve_in-end-3
 slice_bounds-solve_in-end-3 c = sym (taken _ 2048 _ refl (omega (arith, c.wide-n.ensures.0, c.requires.jobs)))
 
 pub solve_in-requires : goal.solve_in-requires
-solve_in-requires c = solve_asked _ _ _ _ c.requires.numbers _ _ c.expand-e.ensures _ 4096 2048 _ _ refl refl (omega (arith, c.expand-e.ensures.few, c.requires.links)) c.wide-n.ensures.0 (omega (arith, c.wide-n.ensures.0, c.requires.jobs))
+solve_in-requires c = solve_asked _ _ c.requires.numbers _ _ c.expand-e.ensures _ 4096 2048 _ _ refl refl (omega (arith, c.expand-e.ensures.few, c.requires.links)) c.wide-n.ensures.0 (omega (arith, c.wide-n.ensures.0, c.requires.jobs))
 
 pub shape_of-releases : goal.shape_of-releases
 shape_of-releases c = c.solve_in.auto.releases
@@ -38,4 +38,4 @@ pub shape_of-deadlines : goal.shape_of-deadlines
 shape_of-deadlines c = c.solve_in.auto.deadlines
 
 pub returns : goal.returns
-returns c = trouble_in _ _ _ _ c.requires.numbers _ _ c.expand-e.ensures _ _ _ _ _ _ c.solve_in.ensures
+returns c = trouble_in _ _ c.requires.numbers _ _ c.expand-e.ensures _ _ _ _ _ _ c.solve_in.ensures
