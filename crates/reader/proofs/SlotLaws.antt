@@ -8,8 +8,7 @@ use native.Mathlib.Omega.{arith}
 use borrow.Author.Tests.{lt-leb, lt-ltb, le-leb, le-ltb}
 use lib.Dec.{ltb}
 use lib.ListN.{length, take, drop}
-use Rattle.vocabulary.specs.Test.{pick}
-use Rattle.vocabulary.specs.Least.{least, Least, some, lowest}
+use Rattle.vocabulary.specs.Least.{Least, lowest}
 use Rattle.vocabulary.proofs.Least.{least_is, least_same, some_same, some_not, some_least, none_least}
 use Rattle.vocabulary.proofs.Prefix.{part_length, part_entry}
 use Rattle.slots.specs.High.{high}
