@@ -382,7 +382,8 @@ module _ (s : Set) (slots : List ℕ) (state : State) (report : ℕ) (out : List
     pub room_for : length out ≤ 8
     room_for = let r = room_is (took answered here (e ∙ look_is)).0 in omega (arith, r.0, r.1)
 
-    pub outcome_shown : {out' : List ℕ} → out' ≡ table (λ q. get_or w.row q 0) (length out) → StepOutcome s slots state report out (stepped (Ok tt) w.state) out'
+    pub outcome_shown : {out' : List ℕ} → out' ≡ table (λ q. get_or w.row q 0) (length out)
+        → StepOutcome s slots state report out (stepped (Ok tt) w.state) out'
     unfolding stepped_of left_of if_shown
     outcome_shown g =
         let t = took answered here (e ∙ look_is) in
@@ -425,7 +426,8 @@ module _ (tasks slots : List ℕ) (report : ℕ) (b out : List ℕ) where
     step_shown f g =
         let t = took said told (e ∙ look_for_lem) in
         let r = room_in_lem t.0 in
-        rw (t.0, f, g, t.1, written_is (step_of told) b r.0, row_out (row_of told) (length out) (length_row told ∙ sym r.1) (let z : length out ≤ 8 = omega (arith, r.1, r.2) in z))
+        let z : length out ≤ 8 = omega (arith, r.1, r.2) in
+        rw (t.0, f, g, t.1, written_is (step_of told) b r.0, row_out (row_of told) (length out) (length_row told ∙ sym r.1) z)
 
   pub step_refused : {r : StepError} → Err r ≡ look_for tasks slots report b (length out) → step_leaves (Err r) b out ≡ step_for tasks slots report b out
   unfolding step_for if_shown
