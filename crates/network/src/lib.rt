@@ -10,7 +10,6 @@ ghost use Rattle.network.specs.FoundOf.{SolvedFor};
 
 use kinds::{Counts, Tables, TaskSet};
 
-mod leaves;
 mod links;
 mod settle;
 mod sums;
@@ -63,7 +62,7 @@ fn solve_in(f: Counts, tables: &Tables, releases: &mut [i32], deadlines: &mut [i
     let trouble = tiers::solve_sized(f, tables, releases, deadlines);
     let load = sums::load_of(f, tables);
     Found {
-        jobs: kinds::wide(f.jobs),
+        jobs: f.jobs as usize,
         trouble,
         load,
         room: f.processors * f.ticks,
