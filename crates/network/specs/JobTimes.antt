@@ -404,7 +404,8 @@ module _ (u : Tasks) (h : ℕ) (links : List (List ℕ)) (next : List ℕ) (rows
 unfoldable pub over : List (List ℕ) → ℕ → Bool
 over rows x = ltb top (at (row.releases rows) x + at (row.runs rows) x + at (row.aheads rows) x)
 
-pub over_is : (rows : List (List ℕ)) (x : ℕ) → ltb top (get_or (get_or rows x []) 1 0 + get_or (get_or rows x []) 0 0 + get_or (get_or rows x []) 2 0) ≡ over rows x
+pub over_is : (rows : List (List ℕ)) (x : ℕ)
+    → ltb top (get_or (get_or rows x []) 1 0 + get_or (get_or rows x []) 0 0 + get_or (get_or rows x []) 2 0) ≡ over rows x
 unfolding over
 over_is rows x = rw (column_at 0 rows x, column_at 1 rows x, column_at 2 rows x)
 

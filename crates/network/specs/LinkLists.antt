@@ -225,7 +225,8 @@ module _ (ps : List ℕ) (start m : ℕ) (s : Stride) (e r q : ℕ) (v v' : List
         → Appended (join (pair_made ps start s) (q + 1)) e r' v v''
     pairs_on v'' h =
         rw (h.0, pair_is)
-        (append_next (pair_made ps start s) q e r (r + turns_of s (second_in ps (start + q))) v v' v'' w (append_pair ps start s q r v' v'' (rw pair_is at h.1)))
+        (append_next (pair_made ps start s) q e r (r + turns_of s (second_in ps (start + q))) v v' v'' w
+        (append_pair ps start s q r v' v'' (rw pair_is at h.1)))
 
 -- ---- all patterns, from the attributes xs and the first jobs bs of their tasks
 abbrev pub stride_at : ℕ → List ℕ → List ℕ → ℕ → ℕ → Stride

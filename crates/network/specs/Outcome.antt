@@ -165,7 +165,8 @@ module _ (f : Counts) (t : Tables) (n : Numbered f t) where
   pub bound_needs : BoundAsked f.ticks (tasks_of 0 t.attributes) (patterns_of f.patterns t.headings [])
   bound_needs = bound_asked s sound_set f.ticks n.ticks
 
-  pub fits_small : {j b : ℕ} → j ≡ f.jobs → j ≤ 256 → b ≡ total (bound f.ticks (tasks_of 0 t.attributes) (patterns_of f.patterns t.headings [])) f.patterns → b ≤ 512
+  pub fits_small : {j b : ℕ} → j ≡ f.jobs → j ≤ 256 → b ≡ total (bound f.ticks (tasks_of 0 t.attributes) (patterns_of f.patterns t.headings [])) f.patterns
+      → b ≤ 512
       → FitsTables f t 256 512
   fits_small ej lj eb lb = record { numbers = n; jobs = omega arith; links = omega (arith, links_bound s sound_set f.ticks n.ticks) }
 

@@ -8,7 +8,8 @@ ghost use Rattle.network.specs.LinkLists.{Appended, stride_at, turns_of, step_ro
 use crate::Stride;
 use kinds::{Attributes, Counts, Pairs, Pattern, Tables};
 
-// The links of the pair with numbers a and b that lie within the block, from place e on; where they end. The last rounds, as many as b leads on, lead out of it.
+// The links of the pair with numbers a and b that lie within the block, from place e on; where they end. The last rounds, as many as b leads on, lead out
+// of it.
 fn put_steps(links: &mut [[u16; 2]], e: usize, s: Stride, a: u32, b: u32) -> usize
     requires { StepsAsked e s a b (length links.old) }
     ensures { (result ≡ e + turns_of s b) × Placed e (turns_of s b) (step_row s a b) links.old links.new }

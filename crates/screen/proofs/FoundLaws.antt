@@ -175,7 +175,9 @@ module _ (s : Set) where
 module _ (i k : ℕ) where
   chain : Bool → Bool → Bool → Bool → Adjusted
   chain a b d c =
-      first_of (rule 10 (not a) (Err unadjusted.BadSet) ∷ rule 11 (not b || not d) (Err unadjusted.WrongLength) ∷ rule 13 c (Err (unadjusted.Cycle i k)) ∷ []) (Ok tt)
+      first_of
+      (rule 10 (not a) (Err unadjusted.BadSet) ∷ rule 11 (not b || not d) (Err unadjusted.WrongLength) ∷ rule 13 c (Err (unadjusted.Cycle i k)) ∷ [])
+      (Ok tt)
 
   chain_written : (a b d c : Bool) → (a && (not c && (b && d))) ≡ written (chain a b d c)
   unfolding chain first_of
@@ -230,7 +232,8 @@ module _ (tasks : List ℕ) where
   unfolding adjusted_head
   adjusted_is p q = go (is_some (taken_of tasks)) refl
     where
-      go : (b : Bool) → is_some (taken_of tasks) ≡ b → adjusted_of (view (set_taken tasks)) p q ≡ pick b (adjusted_of (view (set_taken tasks)) p q) (Err unadjusted.BadSet)
+      go : (b : Bool) → is_some (taken_of tasks) ≡ b
+          → adjusted_of (view (set_taken tasks)) p q ≡ pick b (adjusted_of (view (set_taken tasks)) p q) (Err unadjusted.BadSet)
       go true h = refl
       go false h = ap (λ (t : TaskSet). adjusted_of (view t) p q) (taken_none h) ∙ sym (unsound_set (view none) p q none_sound)
 

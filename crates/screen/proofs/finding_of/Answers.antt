@@ -11,7 +11,9 @@ pub returns-in-Some-Cycle : goal.returns-in-Some-Cycle
 returns-in-Some-Cycle c = λ s e. found_cycle s _ (sym c.in-Some.is ∙ e) _ (c.in-Some-Cycle.is ∙ ap Some (rw c.in-Some-Cycle.is at c.in-Some-Cycle.field-0-is))
 
 pub returns-in-Some-Tight : goal.returns-in-Some-Tight
-returns-in-Some-Tight c = λ s e. rw (c.or.ensures, c.overload_of.ensures) (found_tight s _ (sym c.in-Some.is ∙ e) _ (c.in-Some-Tight.is ∙ ap Some (rw c.in-Some-Tight.is at c.in-Some-Tight.field-0-is)))
+returns-in-Some-Tight c =
+    λ s e. rw (c.or.ensures, c.overload_of.ensures)
+    (found_tight s _ (sym c.in-Some.is ∙ e) _ (c.in-Some-Tight.is ∙ ap Some (rw c.in-Some-Tight.is at c.in-Some-Tight.field-0-is)))
 
 pub returns-in-None : goal.returns-in-None
 returns-in-None c = λ s e. c.overload_of-in-None.ensures ∙ found_nothing s _ (sym c.in-Some.is ∙ e) c.in-None.is

@@ -12,7 +12,10 @@ pub put_steps-at-requires : goal.put_steps-at-requires
 put_steps-at-requires c = pairs_step _ _ _ _ _ _ _ _ _ c.requires c.loop-q.invariant.1 c.loop-q-test.true c.pair_at-p.ensures.0
 
 pub loop-q-preserved : goal.loop-q-preserved
-loop-q-preserved c = (omega (arith, c.loop-q-test.true), pairs_on _ _ _ _ _ _ _ _ _ c.requires c.loop-q.invariant.1 c.loop-q-test.true c.pair_at-p.ensures.0 _ c.put_steps-at.ensures)
+loop-q-preserved c = (
+  omega (arith, c.loop-q-test.true),
+  pairs_on _ _ _ _ _ _ _ _ _ c.requires c.loop-q.invariant.1 c.loop-q-test.true c.pair_at-p.ensures.0 _ c.put_steps-at.ensures,
+)
 
 pub shape_of-links : goal.shape_of-links
 shape_of-links c = c.loop-q.invariant.1.long

@@ -13,10 +13,12 @@ pub put_pairs-e-requires : goal.put_pairs-e-requires
 put_pairs-e-requires c = spread_asks _ _ _ _ _ _ _ _ _ c.requires c.loop-k.invariant c.loop-k-test.true c.pattern_at-p.ensures c.stride_of-s.ensures refl
 
 pub overflow_add-used : goal.overflow_add-used
-overflow_add-used c = omega (arith, spread_room _ _ _ _ _ _ _ _ _ c.requires c.loop-k.invariant c.loop-k-test.true c.pattern_at-p.ensures c.stride_of-s.ensures refl)
+overflow_add-used c =
+    omega (arith, spread_room _ _ _ _ _ _ _ _ _ c.requires c.loop-k.invariant c.loop-k-test.true c.pattern_at-p.ensures c.stride_of-s.ensures refl)
 
 pub loop-k-preserved : goal.loop-k-preserved
-loop-k-preserved c = spread_on _ _ _ _ _ _ _ _ _ c.requires c.loop-k.invariant c.loop-k-test.true c.pattern_at-p.ensures c.stride_of-s.ensures refl _ _ c.put_pairs-e.ensures
+loop-k-preserved c =
+    spread_on _ _ _ _ _ _ _ _ _ c.requires c.loop-k.invariant c.loop-k-test.true c.pattern_at-p.ensures c.stride_of-s.ensures refl _ _ c.put_pairs-e.ensures
 
 pub shape_of-links : goal.shape_of-links
 shape_of-links c = c.loop-k.invariant.made.long

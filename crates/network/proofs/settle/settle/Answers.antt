@@ -15,7 +15,8 @@ pub shape_of-jobs-then-not-sweep_links : goal.shape_of-jobs-then-not-sweep_links
 shape_of-jobs-then-not-sweep_links c = c.sweep_links.ensures.long ∙ c.loop-k.invariant.1.long
 
 pub returns-then-not-sweep_links : goal.returns-then-not-sweep_links
-returns-then-not-sweep_links c = (λ e. rounds_still _ _ c.requires _ _ c.loop-k.invariant.1 _ _ _ c.sweep_links.ensures c.if-not-sweep_links.true, λ e. clash refl e)
+returns-then-not-sweep_links c =
+    (λ e. rounds_still _ _ c.requires _ _ c.loop-k.invariant.1 _ _ _ c.sweep_links.ensures c.if-not-sweep_links.true, λ e. clash refl e)
 
 pub loop-k-preserved : goal.loop-k-preserved
 loop-k-preserved c = (omega arith, rounds_on _ _ c.requires _ _ c.loop-k.invariant.1 _ _ _ c.sweep_links.ensures)

@@ -21,8 +21,12 @@ hop-requires c = sweep_hop _ _ _ c.requires _ _ _ c.loop-k.invariant c.loop-k-te
 
 pub loop-k-preserved : goal.loop-k-preserved
 loop-k-preserved c = elim c.if-hop.branch [
-  | then-hop w ↦ sweep_on _ _ _ c.requires _ _ _ c.loop-k.invariant c.loop-k-test.true c.turned-i.ensures c.from.ensures c.from-in-loop-k.ensures _ _ _ c.hop.ensures (λ e. clash w.changed-is e)
-  | else-hop w ↦ sweep_on _ _ _ c.requires _ _ _ c.loop-k.invariant c.loop-k-test.true c.turned-i.ensures c.from.ensures c.from-in-loop-k.ensures _ _ _ c.hop.ensures (λ e. (sym w.changed-is ∙ e, w.if-hop.false))
+  | then-hop w ↦
+      sweep_on _ _ _ c.requires _ _ _ c.loop-k.invariant c.loop-k-test.true c.turned-i.ensures c.from.ensures c.from-in-loop-k.ensures _ _ _ c.hop.ensures
+      (λ e. clash w.changed-is e)
+  | else-hop w ↦
+      sweep_on _ _ _ c.requires _ _ _ c.loop-k.invariant c.loop-k-test.true c.turned-i.ensures c.from.ensures c.from-in-loop-k.ensures _ _ _ c.hop.ensures
+      (λ e. (sym w.changed-is ∙ e, w.if-hop.false))
 ]
 
 pub shape_of-jobs : goal.shape_of-jobs

@@ -10,10 +10,12 @@ pub nonzero_div-sum : goal.nonzero_div-sum
 nonzero_div-sum c = omega (arith, bound_some _ _ _ _ _ c.requires c.loop-k.invariant c.loop-k-test.true c.pattern_at-p.ensures refl c.task_at-t.ensures)
 
 pub overflow_mul-sum : goal.overflow_mul-sum
-overflow_mul-sum c = omega (arith, bound_low _ _ _ _ _ c.requires c.loop-k.invariant c.loop-k-test.true c.pattern_at-p.ensures refl c.task_at-t.ensures refl refl)
+overflow_mul-sum c =
+    omega (arith, bound_low _ _ _ _ _ c.requires c.loop-k.invariant c.loop-k-test.true c.pattern_at-p.ensures refl c.task_at-t.ensures refl refl)
 
 pub overflow_add-sum : goal.overflow_add-sum
-overflow_add-sum c = omega (arith, bound_room _ _ _ _ _ c.requires c.loop-k.invariant c.loop-k-test.true c.pattern_at-p.ensures refl c.task_at-t.ensures refl refl)
+overflow_add-sum c =
+    omega (arith, bound_room _ _ _ _ _ c.requires c.loop-k.invariant c.loop-k-test.true c.pattern_at-p.ensures refl c.task_at-t.ensures refl refl)
 
 pub loop-k-preserved : goal.loop-k-preserved
 loop-k-preserved c = bound_on _ _ _ _ _ c.requires c.loop-k.invariant c.loop-k-test.true c.pattern_at-p.ensures refl c.task_at-t.ensures refl refl

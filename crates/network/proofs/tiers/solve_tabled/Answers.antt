@@ -20,7 +20,9 @@ pub whole_as_front-solve_in-2 : goal.whole_as_front-solve_in-2
 whole_as_front-solve_in-2 g c = (omega (arith, c.requires.fits.jobs), omega (arith, c.requires.small.0))
 
 pub solve_in-requires : goal.solve_in-requires
-solve_in-requires g c = solve_asked _ _ c.requires.fits.numbers _ _ c.expand-e.ensures _ _ _ _ _ (length-replicate _ _) (length-replicate _ _) (omega (arith, c.expand-e.ensures.few, c.requires.fits.links)) refl (omega (arith, c.requires.fits.jobs))
+solve_in-requires g c =
+    solve_asked _ _ c.requires.fits.numbers _ _ c.expand-e.ensures _ _ _ _ _ (length-replicate _ _) (length-replicate _ _)
+    (omega (arith, c.expand-e.ensures.few, c.requires.fits.links)) refl (omega (arith, c.requires.fits.jobs))
 
 pub returns : goal.returns
 returns g c = trouble_in _ _ c.requires.fits.numbers _ _ c.expand-e.ensures _ _ _ _ _ _ c.solve_in.ensures

@@ -23,7 +23,8 @@ bounds-deadlines-x c = omega (arith, c.loop-x.invariant.1.long, c.loop-x-test.tr
 pub loop-x-preserved : goal.loop-x-preserved
 loop-x-preserved c = (
   fill_on _ _ _ _ _ _ c.loop-x.invariant.0 c.loop-x-test.true (to_z-of_z w32 c.plain-a.result (record { sfits = c.plain-a.type_inv }) ∙ c.plain-a.ensures),
-  fill_on _ _ _ _ _ _ c.loop-x.invariant.1 c.loop-x-test.true (to_z-of_z w32 c.left_of-z.result (record { sfits = c.left_of-z.type_inv }) ∙ c.left_of-z.ensures),
+  fill_on _ _ _ _ _ _ c.loop-x.invariant.1 c.loop-x-test.true
+      (to_z-of_z w32 c.left_of-z.result (record { sfits = c.left_of-z.type_inv }) ∙ c.left_of-z.ensures),
 )
 
 pub returns : goal.returns
