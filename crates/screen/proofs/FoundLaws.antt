@@ -174,7 +174,9 @@ module _ (s : Set) where
 module _ (i k : ℕ) where
   chain : Bool → Bool → Bool → Bool → Adjusted
   chain a b d c =
-      first_of (rule 10 (not a) (Err unadjusted.BadSet) ∷ rule 11 (not b || not d) (Err unadjusted.WrongLength) ∷ rule 13 c (Err (unadjusted.Cycle i k)) ∷ []) (Ok tt)
+      first_of
+      (rule 10 (not a) (Err unadjusted.BadSet) ∷ rule 11 (not b || not d) (Err unadjusted.WrongLength) ∷ rule 13 c (Err (unadjusted.Cycle i k)) ∷ [])
+      (Ok tt)
 
   chain_written : (a b d c : Bool) → (a && (not c && (b && d))) ≡ written (chain a b d c)
   unfolding chain first_of
@@ -223,7 +225,8 @@ module _ (tasks : List ℕ) where
   unfolding adjusted_head
   adjusted_is p q = go (taken_of tasks).fits refl
     where
-      go : (b : Bool) → (taken_of tasks).fits ≡ b → adjusted_of (view (taken_of tasks).set) p q ≡ pick b (adjusted_of (view (taken_of tasks).set) p q) (Err unadjusted.BadSet)
+      go : (b : Bool) → (taken_of tasks).fits ≡ b
+          → adjusted_of (view (taken_of tasks).set) p q ≡ pick b (adjusted_of (view (taken_of tasks).set) p q) (Err unadjusted.BadSet)
       go true h = refl
       go false h = ap (λ (t : Taking). adjusted_of (view t.set) p q) (not_taken_lem tasks h) ∙ sym (unsound_set (view not_taken.set) p q none_sound)
 
