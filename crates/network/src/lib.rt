@@ -69,8 +69,8 @@ fn solve_in(f: Counts, tables: &Tables, releases: &mut [i32], deadlines: &mut [i
     }
 }
 
-// What is found of a set, none where it breaks rule 10; where links make no cycle and both buffers have a place for each job of one cycle, its adjusted release and deadline, by task,
-// then job. Else the buffers are left as they are.
+// What is found of a set, none where it breaks rule 10; where links make no cycle and both buffers have a place for each job of one cycle, its adjusted
+// release and deadline, by task, then job. Else the buffers are left as they are.
 pub fn solve(set: TaskSet, releases: &mut [i32], deadlines: &mut [i32]) -> Option<Found>
     ensures { SolvedFor (view set) releases.old deadlines.old result releases.new deadlines.new }
 {
