@@ -1,5 +1,5 @@
 -- Laws of the definitions in specs/Demand2Bytes.antt.
-use Rattle.std.specs.Prelude.{◌≡◌, refl, true, List, ◌↔◌, ℕ}
+use Rattle.std.specs.Prelude.{◌≡◌, refl, true, List, ◌↔◌, ℕ, is_some}
 use Rattle.std.proofs.Common.{sym, ap, ◌∙◌, subst, arith}
 use Rattle.vocabulary.proofs.Test.{took}
 use Rattle.kinds.specs.Tasks.{Set, view}
@@ -33,13 +33,13 @@ zero_verdict (verdict.WrongCount i k c a b) e = absurd (omega arith)
 zero_verdict (verdict.BrokenLink k q n) e = absurd (omega arith)
 
 -- the verdict is that of the set, where there is one
-pub judged_set : (tasks plan : List ℕ) → (taken_of tasks).fits ≡ true → judged_of tasks plan ≡ verdict_of (set_of_tasks tasks) plan
+pub judged_set : (tasks plan : List ℕ) → is_some (taken_of tasks) ≡ true → judged_of tasks plan ≡ verdict_of (set_of_tasks tasks) plan
 unfolding judged_of
 judged_set tasks plan e = rw e
 
-judged_fits : (tasks plan : List ℕ) → judged_of tasks plan ≡ verdict.Accepted → (taken_of tasks).fits ≡ true
+judged_fits : (tasks plan : List ℕ) → judged_of tasks plan ≡ verdict.Accepted → is_some (taken_of tasks) ≡ true
 unfolding judged_of
-judged_fits tasks plan e = (took (taken_of tasks).fits _ _ _ e (λ q. omega (arith, ap number_of q))).0
+judged_fits tasks plan e = (took (is_some (taken_of tasks)) _ _ _ e (λ q. omega (arith, ap number_of q))).0
 
 -- ==== The judge answers 0 to C exactly if the tasks are a head and nothing more and the plan is right for ever.
 pub judged_zero : (tasks plan : List ℕ) → (number_of (judged_of tasks plan) ≡ 0) ↔ Right tasks plan
@@ -67,7 +67,7 @@ pub file_zero : (file : List ℕ) → readAnswers.number_of (read_of file).outco
 file_zero file e =
     let p = read_parts file e in
     let s : set_of_tasks (tasks_in file) ≡ set_of_file file = ap (λ (t : Taking). view t.set) p.tasks in
-    let f : (taken_of (tasks_in file)).fits ≡ true = ap (λ (t : Taking). t.fits) p.tasks in (
+    let f : is_some (taken_of (tasks_in file)) ≡ true = ap (λ (t : Taking). t.fits) p.tasks in (
       λ z. subst (λ (u : Set). Valid u (plan_of u (plan_in file))) s ((judged_zero (tasks_in file) (plan_in file)).0 z).valid,
       λ v.
           ap number_of (judged_set (tasks_in file) (plan_in file) f

@@ -1,5 +1,5 @@
 -- Where the ticks fell: what the five numbers of 22 say of the job that they name, for a set, for C, and in a start.
-use Rattle.std.specs.Prelude.{◌≡◌, refl, Bool, true, false, not, List, ℕ, ◌<◌}
+use Rattle.std.specs.Prelude.{◌≡◌, refl, Bool, true, false, not, List, ℕ, ◌<◌, is_some}
 use Rattle.std.proofs.Common.{ap, subst, arith}
 use Rattle.vocabulary.specs.Test.{pick}
 use Rattle.vocabulary.proofs.Test.{took}
@@ -11,7 +11,7 @@ use Rattle.kinds.specs.Plans.{plan_of}
 use Rattle.kinds.specs.JobTicks.{Gets}
 use Rattle.kinds.proofs.SoundFacts.{Sound, sound_facts}
 use Rattle.laws.proofs.JobTicks.{gets_within, gets_low}
-use Rattle.reader.specs.Files.{taken_of}
+use Rattle.reader.specs.Files.{taken_of, set_taken}
 use Rattle.judge.specs.declared.Verdict.TheVariants as verdict
 use Rattle.judge.specs.Answers.{number_of}
 use Rattle.judge.specs.Judgement.{rules, plan_rules, verdict_of}
@@ -60,16 +60,16 @@ pub fell_in_bytes : (tasks slots : List ℕ) {i k c a b : ℕ} → judged_of tas
     → Gets (set_of_tasks tasks).tasks (plan_of (set_of_tasks tasks) slots) i k c a b × (a < 12000) × (b < 12000)
 unfolding judged_of
 fell_in_bytes tasks slots e =
-    let w = (took (taken_of tasks).fits _ _ _ e (λ q. omega (arith, ap number_of q))).1 in
+    let w = (took (is_some (taken_of tasks)) _ _ _ e (λ q. omega (arith, ap number_of q))).1 in
     let l = fell_low (set_of_tasks tasks) slots w in
     (ticks_fell (set_of_tasks tasks) slots w, l.0, l.1)
 
 -- ==== A start with a state of 21 bytes answers as the judge does, with the same evidence.
 pub start_as_judge : (tasks slots : List ℕ) → start_verdict tasks slots 21 ≡ judged_of tasks slots
 unfolding start_verdict start_rules verdict_of judged_of first_of
-start_as_judge tasks slots = by (taken_of tasks).fits
+start_as_judge tasks slots = by (is_some (taken_of tasks))
   where
-    by : (fits : Bool) → pick (not fits) verdict.BadSet (verdict_of (view (taken_of tasks).set) slots)
-        ≡ pick fits (verdict_of (view (taken_of tasks).set) slots) verdict.BadSet
+    by : (fits : Bool) → pick (not fits) verdict.BadSet (verdict_of (view (set_taken tasks)) slots)
+        ≡ pick fits (verdict_of (view (set_taken tasks)) slots) verdict.BadSet
     by true = refl
     by false = refl
