@@ -4,7 +4,7 @@ use mathlib.Core.Bool.{Bool, true, false, not}
 use mathlib.Core.List.{List, ◌++◌}
 use mathlib.Core.Logic.{◌⊎◌, inl, inr}
 use Prim.Native.Nat.{ℕ, zero, suc, ◌+◌, ◌*◌, ◌-◌, ◌/◌, ◌%◌, ◌^◌, ◌<◌, ◌≤◌}
-use native.Mathlib.Nat.{div-div-eq-div-mul, div-one, lt_of_lt_of_le}
+use native.Mathlib.Nat.{div-div-eq-div-mul, div-one, lt_of_lt_of_le, pow-succ'}
 use native.Mathlib.Omega.{arith}
 use lib.Dec.{lit<, leb, ltb}
 use lib.ListN.{get_or, length, get_or-append}
@@ -12,6 +12,7 @@ use lib.Seq.{get_or-append-add}
 use lib.Pow.{pow-add, pow_mono}
 use mir.Val.{bool_byte}
 use borrow.Author.Tests.{le-leb, lt-leb, le-ltb, lt-ltb, ne_eqb}
+use Rattle.std.specs.Int.{w64, byte_at, bytes_low_first, to_le_bytes}
 use Rattle.vocabulary.specs.Test.{bit}
 use Rattle.vocabulary.proofs.Test.{lt_or_le}
 use Rattle.vocabulary.specs.Table.{table}
@@ -32,6 +33,29 @@ byte_shift (suc n) x (suc k) l =
     ∙ ap (λ (y : ℕ). y % 256)
     (div-div-eq-div-mul x 256 (2 ^ (8 * k))
     ∙ ap (λ (y : ℕ). x / y) (sym (pow-add 2 8 (8 * k)) ∙ ap (λ (e : ℕ). 2 ^ e) (let g : 8 + 8 * k ≡ 8 * suc k = omega arith in g)))
+
+-- the library's bytes of a number
+power_256 : (j : ℕ) → 256 ^ j ≡ 2 ^ (8 * j)
+power_256 zero = refl
+power_256 (suc j) =
+    pow-succ' 256 j
+    ∙ ap (λ (y : ℕ). 256 * y) (power_256 j)
+    ∙ sym (pow-add 2 8 (8 * j))
+    ∙ ap (λ (e : ℕ). 2 ^ e) (let g : 8 + 8 * j ≡ 8 * suc j = omega arith in g)
+
+low_first : (i n x k : ℕ) → k < n → get_or (bytes_low_first i n x) k 0 ≡ byte_at (i + k) x
+low_first i zero x k l = absurd (omega arith)
+low_first i (suc n) x zero l = ap (λ (j : ℕ). byte_at j x) (let g : i ≡ i + 0 = omega arith in g)
+low_first i (suc n) x (suc k) l =
+    low_first (suc i) n x k (omega arith)
+    ∙ ap (λ (j : ℕ). byte_at j x) (let g : suc i + k ≡ i + suc k = omega arith in g)
+
+pub le_byte : (x k : ℕ) → k < 8 → get_or (to_le_bytes w64 x) k 0 ≡ x / 2 ^ (8 * k) % 256
+le_byte x k l = low_first 0 8 x k l ∙ ap (λ (j : ℕ). byte_at j x) (let g : 0 + k ≡ k = omega arith in g) ∙ by k
+  where
+    by : (j : ℕ) → byte_at j x ≡ x / 2 ^ (8 * j) % 256
+    by zero = ap (λ (y : ℕ). y % 256) (sym (div-one x))
+    by (suc j) = ap (λ (y : ℕ). x / y % 256) (power_256 (suc j))
 
 -- a list in front
 past : (xs ys : List ℕ) (n k : ℕ) → length xs ≡ n → n ≤ k → get_or (xs ++ ys) k 0 ≡ get_or ys (k - n) 0

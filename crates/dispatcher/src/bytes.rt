@@ -11,7 +11,7 @@ fn byte_of(x: u64, k: usize) -> u8
     requires { k < 8 }
     ensures { result ≡ x / 2 ^ (8 * k) % 256 }
 {
-    ((x >> (8 * k)) % 256) as u8
+    x.to_le_bytes()[k]
 }
 
 // The number that n bytes from a place make, from the highest down.

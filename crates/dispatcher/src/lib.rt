@@ -233,9 +233,8 @@ pub fn start_verdict(tasks: &[u8], plan: &[u8], state: usize) -> Verdict
 fn begin(verdict: Verdict, state: &mut [u8])
     ensures { state.new ≡ first_bytes verdict state.old }
 {
-    match verdict {
-        Verdict::Accepted => State::new().write(state),
-        _ => {}
+    if let Verdict::Accepted = verdict {
+        State::new().write(state);
     }
 }
 

@@ -27,10 +27,10 @@ Middle = Result (Cycle × ℕ × ℕ) Refusal
 abbrev pub Head : Type 0
 Head = Result (Counts × ℕ) Refusal
 
--- edition, task count and m: 3 and 4 (rules R6.3, R6.4)
 abbrev pub opening : ℕ → ℕ → ℕ → Opening
 opening e n m = record { edition = e; tasks = n; processors = m }
 
+-- edition, task count and m: 3 and 4 (rules R6.3, R6.4)
 unfoldable pub opening_of : List ℕ → OpeningRead
 opening_of s =
     and_then (got_at s 0 editions refusal.UnknownEdition) λ e p₁.

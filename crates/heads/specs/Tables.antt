@@ -103,11 +103,11 @@ pairs_from s (suc k) at low limitA limitB j u =
     pairs_from s k next (after x y) limitA limitB (j + 1) (put_pair u j x y)
 
 -- ---- patterns
--- Rule R4.8: after the two tasks x and y a pair count, which is 1 at least (6) and carries the total to 1,024 at most (4). No number of a file is over
--- 2,097,151.
 abbrev pub pattern : ℕ → ℕ → ℕ → Pattern
 pattern x y c = record { from = x; to = y; pairs = c }
 
+-- Rule R4.8: after the two tasks x and y a pair count, which is 1 at least (6) and carries the total to 1,024 at most (4). No number of a file is over
+-- 2,097,151.
 unfoldable pub count_from : List ℕ → ℕ → ℕ → ℕ → ℕ → Heading
 count_from s p x y used =
     and_then (got_at s p (range fewest_pairs 2097152) (refusal.Disordered p)) λ c q.

@@ -186,7 +186,8 @@ module _ {ps : List ℕ} {rows : List (List ℕ)} {g : LinkSteps} {x : ℕ} (w :
 
   -- What the search tells of the pair.
   pub pair_yes : {r : ℕ} → Some r ≡ lowest (breaks w.tasks w.patterns w.plan w.pattern w.pair) (repeats w.tasks w.patterns w.pattern)
-      → (broken_pair w.tasks w.patterns w.plan w.pattern w.pair ≡ true) × (r ≡ least (breaks w.tasks w.patterns w.plan w.pattern w.pair) (repeats w.tasks w.patterns w.pattern))
+      → (broken_pair w.tasks w.patterns w.plan w.pattern w.pair ≡ true)
+      × (r ≡ least (breaks w.tasks w.patterns w.plan w.pattern w.pair) (repeats w.tasks w.patterns w.pattern))
   unfolding broken_pair
   pair_yes {r} e = (lowest_yes _ _ e, (some_least (breaks u v p k q) (repeats u v k) r e).0)
 

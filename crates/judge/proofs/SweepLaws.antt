@@ -44,7 +44,8 @@ halted u p e rows h =
       bad = λ x z. let y : e ≡ x = cc z in rw (← y) h;
     }
 
-module _ (u : Tasks) (p : Plan) (f : Fit u p) (e q c x : ℕ) (rows : List (List ℕ)) (w : Sweeping u p e q c x rows) (sweep_tick : c < p.cycle) (lq : q < p.processors) where
+module _ (u : Tasks) (p : Plan) (f : Fit u p) (e q c x : ℕ) (rows : List (List ℕ)) (w : Sweeping u p e q c x rows)
+    (sweep_tick : c < p.cycle) (lq : q < p.processors) where
   pub sweep_low : e < p.cycle * p.processors
   sweep_low = walk_low u p e q c rows w.walking sweep_tick lq
 
@@ -83,7 +84,8 @@ sweep_down u p e q c x rows w z =
 
 pub sweep_end : (u : Tasks) (p : Plan) → Fit u p → (e c x : ℕ) (rows : List (List ℕ)) → Sweeping u p e 0 c x rows → p.cycle ≤ c → Swept u p None rows
 sweep_end u p f e c x rows w l =
-    let le : p.cycle * p.processors ≤ e = omega (arith, w.walking.place, mul-le-mul {n₁ = p.cycle} {m₁ = p.processors} {n₂ = c} {m₂ = p.processors} l (le_refl p.processors)) in
+    let lc : p.cycle * p.processors ≤ c * p.processors = mul-le-mul {n₁ = p.cycle} {m₁ = p.processors} {n₂ = c} {m₂ = p.processors} l (le_refl p.processors) in
+    let le : p.cycle * p.processors ≤ e = omega (arith, w.walking.place, lc) in
     let g : e ≡ p.cycle * p.processors = omega (arith, w.walking.seen.within) in
     let once : ((t : ℕ) → t < p.cycle → clashes p t ≡ false) = λ t h. w.once t (omega arith) in
     record {

@@ -15,7 +15,8 @@ use Rattle.vocabulary.specs.Least.{least, some, lowest}
 use Rattle.vocabulary.proofs.Least.{least_is, some_yes, some_lt, some_ge, none, some_least, none_least}
 use Rattle.vocabulary.specs.Tally.{Fresh}
 use Rattle.kinds.specs.declared.Counts.{Counts}
-use Rattle.kinds.specs.Tasks.{Tasks, Patterns, Set, tasks_of, patterns_of}
+use Rattle.kinds.specs.declared.Tables.{Tables}
+use Rattle.kinds.specs.Tasks.{Tasks, Patterns, Set, tasks_of}
 use Rattle.kinds.specs.Plans.{Plan}
 use Rattle.kinds.specs.Sound.{sound}
 use Rattle.kinds.proofs.SoundFacts.{Sound, sound_facts}
@@ -34,7 +35,7 @@ use Rattle.judge.proofs.SweepLaws.{out_found}
 use Rattle.judge.specs.TableNeeds.{PlanNeeds, Tallied, Counted, AllRan, LinkNeeds}
 use Rattle.judge.proofs.NeedLaws.{fit_needs}
 use Rattle.judge.proofs.CountLaws.{all_counted}
-use Rattle.kinds.specs.Build.{lent_set}
+use Rattle.kinds.specs.Build.{tables_of, lent_tasks, lent_patterns, lent_set}
 use Rattle.judge.specs.Lent.{lent_plan, misplaced_verdict}
 use Rattle.judge.specs.Searches.{mated_pair_of, twice_found}
 use Rattle.judge.proofs.Searches.{with_some, with_none}
@@ -42,7 +43,7 @@ use Rattle.std.specs.Prelude.{Some, None}
 
 -- A set by value with the numbers that were found is judged as its tables are.
 pub lent_verdict : (s : Set) {f : Counts} → CountsFound s f → (slots : List ℕ)
-    → verdict_of (lent_set f s.tasks.attributes s.patterns.headings s.patterns.pairs) slots ≡ verdict_of s slots
+    → verdict_of (lent_set f (tables_of s.tasks.attributes s.patterns.headings s.patterns.pairs)) slots ≡ verdict_of s slots
 lent_verdict s c slots = ap (λ (z : Set). verdict_of z slots) (lent_is s c)
 
 -- ---- 10 and 11
@@ -50,9 +51,9 @@ pub bad_set : (s : Set) (slots : List ℕ) → sound s ≡ false → verdict.Bad
 unfolding verdict_of rules first_of
 bad_set s slots e = rw e
 
-module _ (f : Counts) (xs hs ps slots : List ℕ) (c : CountsFound (lent_set f xs hs ps) f) where
+module _ (f : Counts) (t : Tables) (slots : List ℕ) (c : CountsFound (lent_set f t) f) where
   abbrev s : Set
-  s = lent_set f xs hs ps
+  s = lent_set f t
 
   found : Sound s
   found = sound_facts s c.is_sound
@@ -62,33 +63,36 @@ module _ (f : Counts) (xs hs ps slots : List ℕ) (c : CountsFound (lent_set f x
   few_places =
       mul-le-mul {n₁ = f.processors} {m₁ = f.ticks} {n₂ = 8} {m₂ = 6000} found.few_processors (omega (arith, c.ticks, found.low_cycle))
 
-  pub other_length : (length slots ≡ f.processors * f.ticks → ⊥) → verdict.WrongLength ≡ verdict_of (lent_set f xs hs ps) slots
+  pub other_length : (length slots ≡ f.processors * f.ticks → ⊥) → verdict.WrongLength ≡ verdict_of (lent_set f t) slots
   unfolding verdict_of rules first_of
   other_length n = rw (c.is_sound, ← c.ticks, ne_eqb (length slots) (f.processors * f.ticks) n)
 
   module _ (l : length slots ≡ f.processors * f.ticks) where
-    pub plan_needs : PlanNeeds (tasks_of f.tasks xs) (patterns_of f.patterns hs ps) (lent_plan f slots)
+    pub plan_needs : PlanNeeds (lent_tasks f t) (lent_patterns f t) (lent_plan f slots)
     plan_needs = record { edition = f.edition; sound = found; ticks = c.ticks; long = l }
 
-    pub judged : verdict_from 12 (tasks_of f.tasks xs) (patterns_of f.patterns hs ps) (lent_plan f slots) ≡ verdict_of (lent_set f xs hs ps) slots
+    pub judged : verdict_from 12 (lent_tasks f t) (lent_patterns f t) (lent_plan f slots) ≡ verdict_of (lent_set f t) slots
     unfolding verdict_of rules verdict_from plan_rules from first_of
     judged = rw (c.is_sound, ← c.ticks, eq-eqb (length slots) (f.processors * f.ticks) l)
 
 -- ---- 12
-module _ (u : Tasks) (v : Patterns) (p : Plan) (e : ℕ) (q : e ≡ least (high p.slots u.count) (length p.slots)) where
-  pub high_slot_lem : e < length p.slots → verdict.BadSlot e ≡ verdict_from 12 u v p
+module _ (u : Tasks) (v : Patterns) (p : Plan) where
+  pub high_slot_lem : {e : ℕ} → Some e ≡ lowest (high p.slots u.count) (length p.slots) → verdict.BadSlot e ≡ verdict_from 12 u v p
   unfolding verdict_from plan_rules from first_of high_at
-  high_slot_lem l = rw (some_lt (high p.slots u.count) (length p.slots) e q l, ← q)
+  high_slot_lem {e} found =
+      let w = some_least (high p.slots u.count) (length p.slots) e found in
+      rw (some_lt (high p.slots u.count) (length p.slots) e w.0 w.1, ← w.0)
 
-  none_high : length p.slots ≤ e → some (high p.slots u.count) (length p.slots) ≡ false
-  none_high l = some_ge (high p.slots u.count) (length p.slots) e q l
+  module _ (none : None ≡ lowest (high p.slots u.count) (length p.slots)) where
+    none_high : some (high p.slots u.count) (length p.slots) ≡ false
+    none_high = (none_least (high p.slots u.count) (length p.slots) none).1
 
-  pub low_slots : length p.slots ≤ e → verdict_from 20 u v p ≡ verdict_from 12 u v p
-  unfolding verdict_from plan_rules from first_of
-  low_slots l = rw (none_high l)
+    pub low_slots : verdict_from 20 u v p ≡ verdict_from 12 u v p
+    unfolding verdict_from plan_rules from first_of
+    low_slots = rw none_high
 
-  pub fit_slots : PlanNeeds u v p → length p.slots ≤ e → Fit u p
-  fit_slots a l = fit_needs u v p a (all_low p.slots u.count (none_high l))
+    pub fit_slots : PlanNeeds u v p → Fit u p
+    fit_slots a = fit_needs u v p a (all_low p.slots u.count none_high)
 
 -- ---- the table of jobs as it is made
 abbrev pub no_row : List ℕ

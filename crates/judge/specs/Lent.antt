@@ -3,11 +3,9 @@ use Rattle.std.specs.Prelude.{List, ℕ}
 use Rattle.vocabulary.specs.Test.{pick}
 use Rattle.vocabulary.specs.Least.{some}
 use Rattle.kinds.specs.declared.Counts.{Counts}
-use Rattle.kinds.specs.Tasks.{Tasks, Patterns, Set}
-use Rattle.kinds.specs.Build.{lent_tasks, lent_patterns, lent_set}
+use Rattle.kinds.specs.Tasks.{Tasks}
 use Rattle.kinds.specs.Plans.{Plan, plan}
 use Rattle.judge.specs.declared.Verdict.{Verdict}
-use Rattle.judge.specs.declared.SetView.{SetView}
 use Rattle.judge.specs.declared.twice.PlanView.{PlanView}
 use Rattle.judge.specs.RowMarks.{Worded}
 use Rattle.judge.specs.Rules.{clashes}
@@ -16,16 +14,6 @@ use Rattle.judge.specs.Judgement.{twice_at, outside_at}
 -- the plan for a set that is lent
 abbrev pub lent_plan : Counts → List ℕ → Plan
 lent_plan f slots = plan slots f.processors f.ticks
-
--- the set that is lent
-abbrev pub tasks_in : SetView → Tasks
-tasks_in s = lent_tasks s.counts s.attributes.now
-
-abbrev pub patterns_in : SetView → Patterns
-patterns_in s = lent_patterns s.counts s.headings.now s.pairs.now
-
-abbrev pub set_in : SetView → Set
-set_in s = lent_set s.counts s.attributes.now s.headings.now s.pairs.now
 
 -- the plan that is seen, whose slots' tasks fit a word
 abbrev pub plan_in : PlanView → Plan

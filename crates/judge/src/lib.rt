@@ -12,10 +12,11 @@ ghost use Rattle.judge.specs.Heads.{judged_of};
 ghost use Rattle.judge.specs.JobOfSlot.{Fit};
 ghost use Rattle.judge.specs.Sweep.{Halted};
 ghost use Rattle.judge.specs.TableNeeds.{PlanNeeds};
-ghost use Rattle.judge.specs.Lent.{tasks_in, patterns_in, set_in, lent_plan, Viewed, plan_in, misplaced_verdict};
+ghost use Rattle.kinds.specs.Build.{tasks_in, patterns_in, set_in};
+ghost use Rattle.judge.specs.Lent.{lent_plan, Viewed, plan_in, misplaced_verdict};
 
 use crate::twice::PlanView;
-use kinds::{Attributes, Counts, Headings, Pairs, Task, TaskSet};
+use kinds::{Counts, SetView, Tables, Task, TaskSet};
 
 mod bases;
 mod counts;
@@ -42,15 +43,6 @@ pub enum Verdict {
     WrongCount(u32, u32, u32, u32, u32),
     // Pattern, pair, k.
     BrokenLink(u32, u32, u32),
-}
-
-// A sound set as it is lent: its numbers and its tables. The tables have one lifetime, so that the fields of one set can be lent together.
-#[derive(Clone, Copy)]
-struct SetView<'a> {
-    counts: Counts,
-    attributes: &'a Attributes,
-    headings: &'a Headings,
-    pairs: &'a Pairs,
 }
 
 // A task's jobs in the table of a cycle: the number of the first, how many there are, and the task.
@@ -98,8 +90,8 @@ fn judge_rows<'a>(set: SetView<'a>, slots: &[u8], rows: &mut [[u32; 3]]) -> Verd
     ensures { result ≡ verdict_from 20 (tasks_in set.entry) (patterns_in set.entry) (lent_plan set.entry.counts slots.now) }
 {
     let mut base = [0u32; 64];
-    bases::put_first_jobs(set.counts, set.attributes, &mut base);
-    if let Some(e) = walk::sweep(set.counts, set.attributes, &base, slots, rows) {
+    bases::put_first_jobs(set.counts, &set.tables.attributes, &mut base);
+    if let Some(e) = walk::sweep(set.counts, &set.tables.attributes, &base, slots, rows) {
         let view = PlanView {
             slots,
             m: set.counts.processors as usize,
@@ -140,8 +132,7 @@ fn judge_tables<'a>(set: SetView<'a>, slots: &[u8]) -> Verdict
     if slots.len() != set.counts.processors as usize * set.counts.ticks as usize {
         return Verdict::WrongLength;
     }
-    let e = slots::first_high(slots, set.counts.tasks);
-    if e < slots.len() {
+    if let Some(e) = slots::first_high(slots, set.counts.tasks) {
         return Verdict::BadSlot(e);
     }
     judge_slots(set, slots)
@@ -151,37 +142,23 @@ fn judge_tables<'a>(set: SetView<'a>, slots: &[u8]) -> Verdict
 pub fn judge(set: TaskSet, plan: &[u8]) -> Verdict
     ensures { result ≡ verdict_of (view set) plan.now }
 {
-    let f = kinds::counts_of(set);
-    if f.ticks == 0 {
+    let Some(counts) = kinds::counts_of(set) else {
         return Verdict::BadSet;
-    }
-    let lent = SetView {
-        counts: f,
-        attributes: &set.attributes,
-        headings: &set.headings,
-        pairs: &set.pairs,
     };
-    judge_tables(lent, plan)
+    let tables = &set.tables;
+    judge_tables(SetView { counts, tables }, plan)
 }
 
 // The verdict on a set that is given as the head of a file; bytes that are no head, or more than one, are 10. It copies no set.
 pub fn judge_head(tasks: &[u8], plan: &[u8]) -> Verdict
     ensures { result ≡ judged_of tasks.now plan.now }
 {
-    let mut attributes = [0u32; 256];
-    let mut headings = [0u32; 192];
-    let mut pairs = [0u16; 2048];
-    let f = reader::read_whole(tasks, &mut attributes, &mut headings, &mut pairs);
-    if f.ticks == 0 {
+    let mut tables = Tables::new();
+    let Some(counts) = reader::read_whole(tasks, &mut tables) else {
         return Verdict::BadSet;
-    }
-    let head = SetView {
-        counts: f,
-        attributes: &attributes,
-        headings: &headings,
-        pairs: &pairs,
     };
-    judge_tables(head, plan)
+    let tables = &tables;
+    judge_tables(SetView { counts, tables }, plan)
 }
 
 // The number of a verdict: 0, 10, 11, 12, or 20 to 23.
@@ -208,14 +185,19 @@ pub fn evidence_of(v: Verdict, which: u32) -> usize
         Verdict::Accepted => 0,
         Verdict::BadSet => 0,
         Verdict::WrongLength => 0,
-        Verdict::BadSlot(e) => evidence::one_of(which, e),
-        Verdict::Twice(t, q, r) => evidence::three_of(which, t as usize, q as usize, r as usize),
-        Verdict::Outside(t, q) => evidence::two_of(which, t as usize, q as usize),
-        Verdict::WrongCount(i, k, c, a, b) => evidence::five_of(
-            which, i as usize, k as usize, c as usize, a as usize, b as usize,
+        Verdict::BadSlot(e) => evidence::number_at(which, &[e]),
+        Verdict::Twice(t, q, r) => evidence::number_at(
+            which,
+            &[t as usize, q as usize, r as usize],
         ),
-        Verdict::BrokenLink(k, q, n) => evidence::three_of(
-            which, k as usize, q as usize, n as usize,
+        Verdict::Outside(t, q) => evidence::number_at(which, &[t as usize, q as usize]),
+        Verdict::WrongCount(i, k, c, a, b) => evidence::number_at(
+            which,
+            &[i as usize, k as usize, c as usize, a as usize, b as usize],
+        ),
+        Verdict::BrokenLink(k, q, n) => evidence::number_at(
+            which,
+            &[k as usize, q as usize, n as usize],
         ),
     }
 }

@@ -6,11 +6,11 @@ ghost use Rattle.judge.specs.Rules.{breaks};
 ghost use Rattle.judge.specs.Judgement.{verdict_from};
 ghost use Rattle.judge.specs.Searches.{broken_pair_of};
 ghost use Rattle.judge.specs.TableNeeds.{steps_of, StepsNeeds, PairOf, PatternOf, LinkNeeds};
-ghost use Rattle.judge.specs.Lent.{tasks_in, patterns_in};
+ghost use Rattle.kinds.specs.Build.{tasks_in, patterns_in};
 
 use crate::gets::{got, lane_of};
-use crate::{LinkSteps, SetView, Verdict};
-use kinds::{Attributes, Pairs, Pattern};
+use crate::{LinkSteps, Verdict};
+use kinds::{Attributes, Pairs, Pattern, SetView};
 
 // How the links of a pattern step.
 fn steps_of(h: u32, attributes: &Attributes, base: &[u32; 64], p: Pattern) -> LinkSteps
@@ -72,16 +72,16 @@ fn broken_pair(
 
 // The lowest broken link of the patterns, or accepted.
 pub(crate) fn judge_links<'a>(set: SetView<'a>, base: &[u32; 64], rows: &[[u32; 3]]) -> Verdict
-    requires { LinkNeeds set.counts.tasks set.counts.ticks set.attributes.now base.now (patterns_in set) rows.now }
-    ensures { (w : LinkNeeds set.entry.counts.tasks set.entry.counts.ticks set.entry.attributes.now base.now (patterns_in set.entry) rows.now)
+    requires { LinkNeeds set.counts.tasks set.counts.ticks set.tables.now.attributes base.now (patterns_in set) rows.now }
+    ensures { (w : LinkNeeds set.entry.counts.tasks set.entry.counts.ticks set.entry.tables.now.attributes base.now (patterns_in set.entry) rows.now)
         → result ≡ verdict_from 23 (tasks_in set.entry) (patterns_in set.entry) w.counted.plan }
 {
     let mut start: usize = 0;
     for k in 0..set.counts.patterns {
-        let p = kinds::pattern_at(set.headings, k);
-        let g = steps_of(set.counts.ticks, set.attributes, base, p);
+        let p = kinds::pattern_at(&set.tables.headings, k);
+        let g = steps_of(set.counts.ticks, &set.tables.attributes, base, p);
         let n = p.pairs as usize;
-        if let Some((q, r)) = broken_pair(set.pairs, rows, g, start, n) {
+        if let Some((q, r)) = broken_pair(&set.tables.pairs, rows, g, start, n) {
             return Verdict::BrokenLink(k as u32, q as u32, r);
         }
         start += n;

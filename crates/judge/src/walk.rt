@@ -5,7 +5,7 @@ ghost use Rattle.kinds.specs.Cycle.{jobs};
 ghost use Rattle.laws.specs.Window.{time_of};
 ghost use Rattle.judge.specs.JobOfSlot.{Fit, FirstJobs, job_at, Walked, Visited};
 ghost use Rattle.judge.specs.Sweep.{Swept};
-ghost use Rattle.kinds.specs.Build.{lent_tasks};
+ghost use Rattle.kinds.specs.Tasks.{tasks_of};
 ghost use Rattle.judge.specs.Lent.{lent_plan};
 
 use crate::leaves::{has_slot, mark};
@@ -57,9 +57,9 @@ fn visit(
     c: u32,
     rows: &mut [[u32; 3]],
 ) -> bool
-    requires { Fit (lent_tasks f attributes.now) (lent_plan f slots.now) × FirstJobs (lent_tasks f attributes.now) base.now
-        × (e < f.ticks * f.processors) × (c ≡ e / f.processors) × Walked (lent_tasks f attributes.now) (lent_plan f slots.now) e rows.old }
-    ensures { Visited (lent_tasks f attributes.now) (lent_plan f slots.now) e result rows.new }
+    requires { Fit (tasks_of f.tasks attributes.now) (lent_plan f slots.now) × FirstJobs (tasks_of f.tasks attributes.now) base.now
+        × (e < f.ticks * f.processors) × (c ≡ e / f.processors) × Walked (tasks_of f.tasks attributes.now) (lent_plan f slots.now) e rows.old }
+    ensures { Visited (tasks_of f.tasks attributes.now) (lent_plan f slots.now) e result rows.new }
 {
     let v = usize::from(slots[e]);
     if v == 0 {
@@ -82,9 +82,9 @@ pub(crate) fn sweep(
     slots: &[u8],
     rows: &mut [[u32; 3]],
 ) -> Option<usize>
-    requires { Fit (lent_tasks f attributes.now) (lent_plan f slots.now) × FirstJobs (lent_tasks f attributes.now) base.now
-        × Fresh (jobs (lent_tasks f attributes.now)) rows.old }
-    ensures { Swept (lent_tasks f attributes.now) (lent_plan f slots.now) result rows.new }
+    requires { Fit (tasks_of f.tasks attributes.now) (lent_plan f slots.now) × FirstJobs (tasks_of f.tasks attributes.now) base.now
+        × Fresh (jobs (tasks_of f.tasks attributes.now)) rows.old }
+    ensures { Swept (tasks_of f.tasks attributes.now) (lent_plan f slots.now) result rows.new }
 {
     let m = f.processors as usize;
     for c in 0..f.ticks {

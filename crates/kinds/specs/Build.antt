@@ -5,6 +5,7 @@ use Rattle.kinds.specs.declared.Task.{Task}
 use Rattle.kinds.specs.declared.Counts.{Counts}
 use Rattle.kinds.specs.declared.Tables.{Tables}
 use Rattle.kinds.specs.declared.TaskSet.{TaskSet}
+use Rattle.kinds.specs.declared.SetView.{SetView}
 use Rattle.kinds.specs.Tasks.{Tasks, Patterns, Set, tasks_of, patterns_of, task_of, pairs_in, put_task, put_heading, put_pair}
 
 -- tables with 0 in every place, and tables by what they hold
@@ -33,6 +34,16 @@ lent_patterns f t = patterns_of f.patterns t.headings t.pairs
 abbrev pub lent_set : Counts → Tables → Set
 lent_set f t =
     record { edition = f.edition; processors = f.processors; tasks = lent_tasks f t; patterns = lent_patterns f t }
+
+-- the same of a set that is seen through a view
+abbrev pub tasks_in : SetView → Tasks
+tasks_in s = lent_tasks s.counts s.tables.now
+
+abbrev pub patterns_in : SetView → Patterns
+patterns_in s = lent_patterns s.counts s.tables.now
+
+abbrev pub set_in : SetView → Set
+set_in s = lent_set s.counts s.tables.now
 
 -- no room for what is added: a task too many is counted
 abbrev pub overfull : TaskSet → TaskSet

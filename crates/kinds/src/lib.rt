@@ -81,6 +81,13 @@ pub struct Counts {
     pub jobs: u32,
 }
 
+// A set as it is lent: its numbers and its tables.
+#[derive(Clone, Copy)]
+pub struct SetView<'a> {
+    pub counts: Counts,
+    pub tables: &'a Tables,
+}
+
 // The lowest two numbers that may come next in a rising row of pairs.
 #[derive(Clone, Copy)]
 pub struct Key {

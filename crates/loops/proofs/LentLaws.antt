@@ -11,7 +11,7 @@ use lib.Dec.{eqb, leb, ltb}
 use lib.ListN.{length, get_or, get_or-eq_default, replicate, length-replicate, get_or-replicate}
 use Rattle.vocabulary.proofs.Test.{both, lt_or_le}
 use Rattle.vocabulary.proofs.Least.{all_at, all_from}
-use Rattle.vocabulary.proofs.Table.{length_table, get_or_table, is_table, filled}
+use Rattle.vocabulary.proofs.Table.{length_table, get_or_table, is_table}
 use Rattle.graph.specs.Graph.{graph_of, lowest_job}
 use Rattle.graph.specs.Column.{column}
 use Rattle.graph.proofs.Column.{column_long, column_at}

@@ -44,7 +44,7 @@ fn emit_numbers<T: Copy + Into<u32>>(out: &mut [u8], at: usize, numbers: &[T]) -
     next
 }
 
-// The first n patterns, each with its pairs.
+// The first n patterns, each with its pairs. The tables are lent by themselves: of a table in a struct's field the check tells no number's range.
 fn emit_patterns(out: &mut [u8], at: usize, headings: &Headings, pairs: &Pairs, n: usize) -> usize
     requires { PatternsLent (patterns_of n headings.now pairs.now)
         × (at + length (join (pattern_bytes (patterns_of n headings.now pairs.now)) n) ≤ length out.old) }

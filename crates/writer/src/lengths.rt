@@ -37,7 +37,7 @@ fn numbers_length<T: Copy + Into<u32>>(numbers: &[T]) -> usize
     total
 }
 
-// How many bytes the first n patterns have.
+// How many bytes the first n patterns have, of tables that are lent as those of `emit_patterns`.
 fn patterns_length(headings: &Headings, pairs: &Pairs, n: usize) -> usize
     requires { PatternsLent (patterns_of n headings.now pairs.now) }
     ensures { (result ≡ length (join (pattern_bytes (patterns_of n headings.now pairs.now)) n)) × (result ≤ 6720) }

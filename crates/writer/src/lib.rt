@@ -80,7 +80,7 @@ pub fn write_head(tasks: &[u8], plan: &[u8], out: &mut [u8]) -> Result<usize, Wr
     Lent { counts, tables }.write(plan, out)
 }
 
-// What `write_head` answers for a buffer of so many bytes.
+// What `write_head` answers for a buffer of so many bytes. Each has tables of its own: with a closure over the buffer it would be no plainer.
 pub fn written_head(tasks: &[u8], plan: &[u8], room: usize) -> Result<usize, WriteError>
     ensures { result ≡ written_head tasks.now plan.now room }
 {

@@ -1,6 +1,6 @@
-use Rattle.graph.proofs.SearchRows.{walk_asks, walk_next, walk_found, walk_on, walk_less}
+use Rattle.graph.proofs.SearchRows.{walk_asks, walk_next, walk_less}
 use Rattle.graph.proofs.SearchRows.{walk_from_lem, walk_end}
-use Rattle.graph.proofs.SearchRows.{walk_asks, walk_next, walk_found, walk_on}
+use Rattle.graph.proofs.SearchRows.{walk_asks, walk_next}
 use Rattle.graph.proofs.SearchRows.{walk_from_lem, walk_end}
 use Rattle.loops.proofs.walk.Goals as goal
 

@@ -15,7 +15,8 @@ got-b-requires c = pair_to c.requires
 
 pub returns-then-b-a : goal.returns-then-b-a
 returns-then-b-a c = let l = c.loop-n.invariant in
-    λ w. found _ _ _ (l.2 w) (rounds_low w c.loop-n-test.true) (link_yes w l.0 l.1 c.loop-n-test.true (c.got-a.ensures (pair_from w)) (c.got-b.ensures (pair_to w)) c.if-b-a.true)
+    λ w. found _ _ _ (l.2 w) (rounds_low w c.loop-n-test.true)
+    (link_yes w l.0 l.1 c.loop-n-test.true (c.got-a.ensures (pair_from w)) (c.got-b.ensures (pair_to w)) c.if-b-a.true)
 
 pub overflow_add-i : goal.overflow_add-i
 overflow_add-i c = let l = c.loop-n.invariant in

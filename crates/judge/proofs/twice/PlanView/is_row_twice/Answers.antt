@@ -13,14 +13,16 @@ has_slot-requires c = row_few _ _ _ c.requires.0 _ _ c.slot_at-v.ensures
 
 pub returns-then-has_slot : goal.returns-then-has_slot
 returns-then-has_slot c =
-    sym (row_hit _ _ _ _ _ c.loop-q.invariant c.loop-q-test.true c.slot_at-v.ensures (row_few _ _ _ c.requires.0 _ _ c.slot_at-v.ensures) (sym c.has_slot.ensures ∙ c.if-has_slot.true))
+    sym (row_hit _ _ _ _ _ c.loop-q.invariant c.loop-q-test.true c.slot_at-v.ensures (row_few _ _ _ c.requires.0 _ _ c.slot_at-v.ensures)
+    (sym c.has_slot.ensures ∙ c.if-has_slot.true))
 
 pub mark-x-requires : goal.mark-x-requires
 mark-x-requires c = row_few _ _ _ c.requires.0 _ _ c.slot_at-v.ensures
 
 pub loop-q-preserved : goal.loop-q-preserved
 loop-q-preserved c =
-    row_on_lem _ _ _ _ _ c.loop-q.invariant c.loop-q-test.true c.slot_at-v.ensures (row_few _ _ _ c.requires.0 _ _ c.slot_at-v.ensures) _ (sym c.has_slot.ensures ∙ c.if-has_slot.false) c.mark-x.ensures
+    row_on_lem _ _ _ _ _ c.loop-q.invariant c.loop-q-test.true c.slot_at-v.ensures (row_few _ _ _ c.requires.0 _ _ c.slot_at-v.ensures) _
+    (sym c.has_slot.ensures ∙ c.if-has_slot.false) c.mark-x.ensures
 
 pub returns : goal.returns
 returns c = sym (row_end _ _ _ _ c.loop-q.invariant c.loop-q-test.false)
