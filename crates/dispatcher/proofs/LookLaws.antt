@@ -9,7 +9,7 @@ use lib.Dec.{eqb, ltb, leb}
 use lib.ListN.{get_or, length, take, drop}
 use Rattle.vocabulary.proofs.Prefix.{part_length, part_entry}
 use borrow.Author.Tests.{le-leb, lt-leb, leb-false, eq-eqb, ne_eqb, eqb-true}
-use Rattle.std.specs.Prelude.{Ok, Err, is_ok}
+use Rattle.std.specs.Prelude.{Option, Some, None, is_some, Ok, Err, is_ok}
 use Rattle.vocabulary.specs.Test.{pick}
 use Rattle.vocabulary.proofs.Test.{clash, both}
 use Rattle.vocabulary.proofs.Least.{least_same, some_same}
@@ -21,7 +21,7 @@ use Rattle.kinds.specs.Cycle.{cycle}
 use Rattle.kinds.specs.Sound.{sound}
 use Rattle.kinds.proofs.SoundFacts.{Sound, sound_facts}
 use Rattle.kinds.specs.SoundByTests.{CountsFound}
-use Rattle.reader.specs.declared.Taking.{Taking}
+use Rattle.kinds.specs.declared.TaskSet.{TaskSet}
 use Rattle.kinds.specs.declared.Counts.{Counts}
 use Rattle.heads.specs.Tables.{PatternTables, no_pattern_tables}
 use Rattle.heads.specs.Heads.{set_of}
@@ -31,7 +31,7 @@ use Rattle.reader.proofs.WholeLaws.{whole_none, whole_some, whole_found}
 use Rattle.judge.specs.declared.Verdict.{Verdict}
 use Rattle.judge.specs.declared.Verdict.TheVariants as verdict
 use Rattle.judge.specs.Judgement.{rules, verdict_of}
-use Rattle.judge.specs.Heads.{judged_of}
+use Rattle.judge.specs.Heads.{on_taking, judged_of}
 use Rattle.dispatcher.specs.declared.State.{State}
 use Rattle.dispatcher.specs.declared.Started.{Started}
 use Rattle.dispatcher.specs.declared.StepError.{StepError}
@@ -42,7 +42,7 @@ use Rattle.dispatcher.specs.Steps.{OneTick, done_of, byte_of, row_of, ran_of, af
 use Rattle.dispatcher.specs.Refusals.{first_state, on_verdict, started_of, impossible, overreports, high_slot, is_high, high_place, step_rules, answer_by, if_shown, row_at, tick_of, lengths_fit, answer_of, stepped, stepped_of, left_of}
 use Rattle.dispatcher.specs.Outcome.{StepOutcome, written_of, written_is}
 use Rattle.dispatcher.specs.Bytes.{state_of, unclear}
-use Rattle.dispatcher.specs.ForC.{start_leaves, start_rules, start_verdict, first_bytes, start_for, step_leaves, lengths_for_c, impossible_for_c, tick_in, answer_in, step_for}
+use Rattle.dispatcher.specs.ForC.{set_of_taken, start_leaves, start_rules, start_verdict, first_bytes, start_for, step_leaves, lengths_for_c, impossible_for_c, tick_in, answer_in, step_for}
 use Rattle.dispatcher.proofs.StepFacts.{shown_kept, lengths_right}
 use Rattle.dispatcher.specs.Looks.{Look, eight, shown_by, look_by, look_from, look_of, look_in, look_for, part_of, tick_on, tick_for, Steppable, look_in_bytes}
 use Rattle.dispatcher.proofs.RowLaws.{table_same, length_row}
@@ -316,21 +316,23 @@ unfolding look_of
 set_10 s slots state report room e = look_10 (sound s) _ _ (tick_of s slots state report) e
 
 -- ---- the head
-module _ (tasks t : List ℕ) (v : PatternTables) {f : Counts} (read : whole_read f t v ≡ whole_from tasks no_pattern_tables) where
-  pub head_timed : (f.ticks ≡ 0 → ⊥) → Steppable f t
-  head_timed z = timed_of (view (set_of f t v)) (whole_found tasks t v read z)
-
+module _ (tasks t : List ℕ) (v : PatternTables) {c : Option Counts} (read : whole_read c t v ≡ whole_from tasks no_pattern_tables) where
   module _ (slots : List ℕ) (report : ℕ) (b : List ℕ) (room : ℕ) where
-    pub no_head : f.ticks ≡ 0 → Err error.BadSet ≡ look_for tasks slots report b room
+    pub no_head : c ≡ None → Err error.BadSet ≡ look_for tasks slots report b room
     unfolding look_for look_in
     no_head z =
-        look_10 (taken_of tasks).fits _ _ (tick_in (taken_of tasks) slots report b) (ap (λ (x : Taking). x.fits) (whole_none tasks t v read z))
+        look_10 (is_some (taken_of tasks)) _ _ (tick_in (taken_of tasks) slots report b) (ap (λ (x : Option TaskSet). is_some x) (whole_none tasks t v read z))
 
-    pub head_look : {l : Look} → (f.ticks ≡ 0 → ⊥) → l ≡ look_in_bytes f t slots report b room → l ≡ look_for tasks slots report b room
+  module _ {f : Counts} (z : c ≡ Some f) where
+    pub head_timed : Steppable f t
+    head_timed = timed_of (view (set_of f t v)) (whole_found tasks t v read z)
+
+    pub head_look : (slots : List ℕ) (report : ℕ) (b : List ℕ) (room : ℕ) {l : Look} → l ≡ look_in_bytes f t slots report b room
+        → l ≡ look_for tasks slots report b room
     unfolding look_for look_in
-    head_look z g =
+    head_look slots report b room g =
         bytes_look (view (set_of f t v)) (whole_found tasks t v read z) slots report b room g
-        ∙ ap (λ (x : Taking). look_in x slots report b room) (sym (whole_some tasks t v read z).taken)
+        ∙ ap (λ (x : Option TaskSet). look_in x slots report b room) (sym (whole_some tasks t v read z).taken)
 
 -- ---- what a step leaves
 -- a row that fits eight bytes comes out of them again
@@ -380,7 +382,8 @@ module _ (s : Set) (slots : List ℕ) (state : State) (report : ℕ) (out : List
     pub room_for : length out ≤ 8
     room_for = let r = room_is (took answered here (e ∙ look_is)).0 in omega (arith, r.0, r.1)
 
-    pub outcome_shown : {out' : List ℕ} → out' ≡ table (λ q. get_or w.row q 0) (length out) → StepOutcome s slots state report out (stepped (Ok tt) w.state) out'
+    pub outcome_shown : {out' : List ℕ} → out' ≡ table (λ q. get_or w.row q 0) (length out)
+        → StepOutcome s slots state report out (stepped (Ok tt) w.state) out'
     unfolding stepped_of left_of if_shown
     outcome_shown g =
         let t = took answered here (e ∙ look_is) in
@@ -411,7 +414,7 @@ module _ (tasks slots : List ℕ) (report : ℕ) (b out : List ℕ) where
   room_in_lem e =
       let w = shown_kept _ _ _ told e in
       let l = both {a = lengths_fit told.processors told.cycle (length slots) (length out)} w.lengths in
-      (eqb-true (length b) 21 l.1, (lengths_right _ _ _ _ l.0).1, (sound_facts (view (taken_of tasks).set) (taken_sound tasks w.sound)).few_processors)
+      (eqb-true (length b) 21 l.1, (lengths_right _ _ _ _ l.0).1, (sound_facts (set_of_taken (taken_of tasks)) (taken_sound tasks w.sound)).few_processors)
 
   module _ {w : Shown} (e : Ok w ≡ look_for tasks slots report b (length out)) where
     pub room_in_c : length out ≤ 8
@@ -423,7 +426,8 @@ module _ (tasks slots : List ℕ) (report : ℕ) (b out : List ℕ) where
     step_shown f g =
         let t = took said told (e ∙ look_for_lem) in
         let r = room_in_lem t.0 in
-        rw (t.0, f, g, t.1, written_is (step_of told) b r.0, row_out (row_of told) (length out) (length_row told ∙ sym r.1) (let z : length out ≤ 8 = omega (arith, r.1, r.2) in z))
+        let z : length out ≤ 8 = omega (arith, r.1, r.2) in
+        rw (t.0, f, g, t.1, written_is (step_of told) b r.0, row_out (row_of told) (length out) (length_row told ∙ sym r.1) z)
 
   pub step_refused : {r : StepError} → Err r ≡ look_for tasks slots report b (length out) → step_leaves (Err r) b out ≡ step_for tasks slots report b out
   unfolding step_for if_shown
@@ -437,18 +441,18 @@ started_by s slots state e g = g ∙ ap (λ (v : Verdict). record { verdict = v;
 module _ (tasks slots : List ℕ) (state : ℕ) where
   pub right_state : {v : Verdict} → state ≡ 21 → v ≡ judged_of tasks slots → v ≡ start_verdict tasks slots state
   unfolding start_verdict start_rules judged_of verdict_of first_of
-  right_state l e = e ∙ rw (eq-eqb state 21 l) (by (taken_of tasks).fits)
+  right_state l e = e ∙ rw (eq-eqb state 21 l) (by (taken_of tasks))
     where
-      by : (x : Bool) → pick x (verdict_of (view (taken_of tasks).set) slots) verdict.BadSet
-          ≡ pick (not x) verdict.BadSet (first_of (rules (view (taken_of tasks).set) slots) verdict.Accepted)
-      by true = refl
-      by false = refl
+      by : (t : Option TaskSet) → on_taking t slots
+          ≡ pick (not (is_some t)) verdict.BadSet (first_of (rules (set_of_taken t) slots) verdict.Accepted)
+      by (Some s) = refl
+      by None = refl
 
-  pub wrong_state : {t : Taking} → (state ≡ 21 → ⊥) → t ≡ taken_of tasks → t.fits ≡ true → verdict.WrongLength ≡ start_verdict tasks slots state
+  pub wrong_state : {t : Option TaskSet} → (state ≡ 21 → ⊥) → t ≡ taken_of tasks → is_some t ≡ true → verdict.WrongLength ≡ start_verdict tasks slots state
   unfolding start_verdict start_rules first_of
   wrong_state n e f = rw (← e, f, ne_eqb state 21 n)
 
-  pub no_tasks_lem : {t : Taking} → t ≡ taken_of tasks → t.fits ≡ false → verdict.BadSet ≡ start_verdict tasks slots state
+  pub no_tasks_lem : {t : Option TaskSet} → t ≡ taken_of tasks → is_some t ≡ false → verdict.BadSet ≡ start_verdict tasks slots state
   unfolding start_verdict start_rules first_of
   no_tasks_lem e f = rw (← e, f)
 

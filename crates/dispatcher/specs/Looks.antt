@@ -1,13 +1,13 @@
 -- A look at a step: what it will do, before anything is written.
-use Rattle.std.specs.Prelude.{Bool, true, ◌&&◌, ◌||◌, not, List, [], ℕ, ◌+◌, ◌*◌, ◌<◌, ◌≤◌, eqb, leb, get_or, length, take, drop, Result, Ok, Err}
+use Rattle.std.specs.Prelude.{Bool, true, ◌&&◌, ◌||◌, not, List, [], ℕ, ◌+◌, ◌*◌, ◌<◌, ◌≤◌, eqb, leb, get_or, length, take, drop, Option, is_some, Result, Ok, Err}
 use Rattle.vocabulary.specs.Test.{pick}
 use Rattle.vocabulary.specs.Bits.{has}
 use Rattle.vocabulary.specs.Table.{table}
 use Rattle.vocabulary.specs.First.{first_of, from}
-use Rattle.kinds.specs.Tasks.{Tasks, Set, period, offset, tasks_of, view}
+use Rattle.kinds.specs.Tasks.{Tasks, Set, period, offset, tasks_of}
 use Rattle.kinds.specs.Cycle.{cycle}
 use Rattle.kinds.specs.Sound.{sound}
-use Rattle.reader.specs.declared.Taking.{Taking}
+use Rattle.kinds.specs.declared.TaskSet.{TaskSet}
 use Rattle.kinds.specs.declared.Counts.{Counts}
 use Rattle.reader.specs.Files.{taken_of}
 use Rattle.dispatcher.specs.declared.State.{State}
@@ -17,7 +17,7 @@ use Rattle.dispatcher.specs.Answers.{Answer}
 use Rattle.dispatcher.specs.Steps.{OneTick, releases, row_of, step_of}
 use Rattle.dispatcher.specs.Refusals.{impossible, step_rules, row_at, tick_of, lengths_fit}
 use Rattle.dispatcher.specs.Bytes.{state_of, unclear}
-use Rattle.dispatcher.specs.ForC.{lengths_for_c, impossible_for_c, tick_in}
+use Rattle.dispatcher.specs.ForC.{set_of_taken, lengths_for_c, impossible_for_c, tick_in}
 
 -- a row in eight bytes: behind it there are zeros
 unfoldable pub eight : List ℕ → List ℕ
@@ -53,10 +53,10 @@ look_of s slots state report out =
     (impossible s.tasks (cycle s.tasks) state)
     (tick_of s slots state report)
 
-unfoldable pub look_in : Taking → List ℕ → ℕ → List ℕ → ℕ → Look
+unfoldable pub look_in : Option TaskSet → List ℕ → ℕ → List ℕ → ℕ → Look
 look_in t slots report b out =
-    let s : Set = view t.set in
-    look_from 10 t.fits (lengths_for_c s slots b out) (impossible_for_c s b) (tick_in t slots report b)
+    let s : Set = set_of_taken t in
+    look_from 10 (is_some t) (lengths_for_c s slots b out) (impossible_for_c s b) (tick_in t slots report b)
 
 unfoldable pub look_for : List ℕ → List ℕ → ℕ → List ℕ → ℕ → Look
 look_for tasks slots report b out = look_in (taken_of tasks) slots report b out

@@ -14,7 +14,7 @@ fn byte_of(x: u64, k: usize) -> u8
     x.to_le_bytes()[k]
 }
 
-// The number that n bytes from a place make, from the highest down.
+// The number that n bytes from a place make, from the highest down. No `from_le_bytes`: `State::read` takes any length, and a byte past the last counts as 0.
 fn number_in(bytes: &[u8], at: usize, n: usize) -> u64
     requires { (at < 21) × (n ≤ 8) }
     ensures { (result ≡ number bytes.now at n) × (result < 2 ^ (8 * n)) }

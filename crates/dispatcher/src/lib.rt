@@ -13,7 +13,7 @@ ghost use Rattle.dispatcher.specs.Looks.{look_from, look_of, look_for, tick_on, 
 use crate::leaves::{has_bit_from, part_of};
 use crate::marks::{kept_marks, ran_in, show_row, shown_row};
 use judge::Verdict;
-use kinds::{Attributes, Counts, TaskSet, wide};
+use kinds::{Attributes, Counts, Tables, TaskSet, wide};
 
 mod bytes;
 mod leaves;
@@ -191,8 +191,7 @@ impl State {
         if !lengths_fit(f, plan.len(), room) {
             return Err(StepError::WrongLength);
         }
-        let attributes = set.attributes;
-        self.look_on(f, &attributes, plan, report)
+        self.look_on(f, &set.tables.attributes, plan, report)
     }
 
     // The next tick of the plan, with its bytes in the output; a refusal leaves the output and hands back the state that came in.
@@ -222,8 +221,7 @@ pub fn start_verdict(tasks: &[u8], plan: &[u8], state: usize) -> Verdict
     if state == State::BYTES {
         return judge::judge_head(tasks, plan);
     }
-    let taking = reader::take_head(tasks);
-    if taking.fits {
+    if reader::take_head(tasks).is_some() {
         return Verdict::WrongLength;
     }
     Verdict::BadSet
@@ -281,14 +279,11 @@ pub fn look_head(
 ) -> Result<Shown, StepError>
     ensures { result ≡ look_for tasks.now plan.now report state.now room }
 {
-    let mut attributes = [0u32; 256];
-    let mut headings = [0u32; 192];
-    let mut pairs = [0u16; 2048];
-    let f = reader::read_whole(tasks, &mut attributes, &mut headings, &mut pairs);
-    if f.ticks == 0 {
+    let mut tables = Tables::new();
+    let Some(f) = reader::read_whole(tasks, &mut tables) else {
         return Err(StepError::BadSet);
-    }
-    look_bytes(f, &attributes, plan, report, state, room)
+    };
+    look_bytes(f, &tables.attributes, plan, report, state, room)
 }
 
 // The step for C, from and to the 21 bytes of the state; a refusal leaves them and the output.

@@ -1,6 +1,5 @@
 use Rattle.vocabulary.specs.Least.{Seeking}
 use Rattle.kinds.specs.Build.{tasks_in, patterns_in}
-use Rattle.judge.specs.Lent.{tasks_in, patterns_in}
 use Rattle.judge.specs.Rules.{miscounted}
 use Rattle.judge.specs.TableNeeds.{Counted}
 use Rattle.judge.proofs.counts.judge_counts.Given as goal
