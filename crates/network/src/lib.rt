@@ -9,7 +9,6 @@ ghost use Rattle.network.specs.FoundOf.{SolvedFor};
 
 use kinds::{Attributes, Counts, Headings, Pairs, TaskSet};
 
-mod leaves;
 mod links;
 mod settle;
 mod sums;
@@ -69,7 +68,7 @@ fn solve_in<'a>(
     let trouble = tiers::solve_sized(f, attributes, headings, pairs, releases, deadlines);
     let load = sums::load_of(f, attributes);
     Found {
-        jobs: kinds::wide(f.jobs),
+        jobs: f.jobs as usize,
         trouble,
         load,
         room: f.processors * f.ticks,

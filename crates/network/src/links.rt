@@ -6,14 +6,14 @@ ghost use Rattle.network.specs.Placed.{Placed};
 ghost use Rattle.network.specs.LinkLists.{Appended, stride_at, turns_of, step_row, StepsAsked, pair_made, PairsAsked, made_links, StrideAsked, LinksAsked, BasesAsked, FirstNumbers, Wired, ExpandAsked};
 
 use crate::Stride;
-use kinds::{Attributes, Counts, Headings, Pairs, Pattern, wide};
+use kinds::{Attributes, Counts, Headings, Pairs, Pattern};
 
 // The links of the pair with numbers a and b that lie within the block, from place e on; where they end. The last rounds, as many as b leads on, lead out of it.
 fn put_steps(links: &mut [[u16; 2]], e: usize, s: Stride, a: u32, b: u32) -> usize
     requires { StepsAsked e s a b (length links.old) }
     ensures { (result ≡ e + turns_of s b) × Placed e (turns_of s b) (step_row s a b) links.old links.new }
 {
-    let c = s.repeats - wide(b / s.across);
+    let c = s.repeats - ((b / s.across) as usize);
     let dx = s.along;
     let dy = s.across;
     let mut x = s.from + a;
@@ -66,12 +66,12 @@ fn stride_of(h: u32, attributes: &Attributes, base: &[u32; 64], p: Pattern) -> S
     requires { StrideAsked attributes.now p.from p.to }
     ensures { result ≡ stride_at h attributes.now base.now p.from p.to }
 {
-    let i = wide(p.from);
-    let j = wide(p.to);
+    let i = p.from as usize;
+    let j = p.to as usize;
     let s = kinds::task_at(attributes, i);
     let t = kinds::task_at(attributes, j);
     let c = kinds::common_multiple(s.period, t.period);
-    let repeats = wide(h / c);
+    let repeats = (h / c) as usize;
     Stride {
         repeats,
         from: base[i],
@@ -101,7 +101,7 @@ fn put_patterns(
     for k in 0..n {
         let p = kinds::pattern_at(headings, k);
         let s = stride_of(h, attributes, base, p);
-        let m = wide(p.pairs);
+        let m = p.pairs as usize;
         e = put_pairs(pairs, used, m, s, e, links);
         used += m;
     }

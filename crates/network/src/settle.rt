@@ -5,8 +5,6 @@ ghost use Rattle.graph.specs.Pass.{limit, turn};
 ghost use Rattle.graph.specs.Cycle.{Between, Falling};
 ghost use Rattle.graph.specs.JobRows.{starts, ends, aheads, Ready, Hop, Delayed, Hastened, Hopped, Sweeps, Rounds};
 
-use crate::leaves::place;
-
 // The sum, at most the limit. No number of a set without a cycle reaches it.
 fn capped(a: u32, b: u32) -> u32
     requires { (a ≤ limit) × (b ≤ limit) }
@@ -31,6 +29,7 @@ fn delay(jobs: &mut [[u32; 3]], a: usize, b: usize) -> bool
 }
 
 // Job a is due when job b has still time to run; whether it was due later.
+// Beside `delay` and not one function with it: they read, test and write other places of other jobs, and one with all of these as parameters is no plainer.
 fn hasten(jobs: &mut [[u32; 3]], a: usize, b: usize) -> bool
     requires { Hop a b jobs.old }
     ensures { Hastened a b jobs.old jobs.new result }
@@ -58,6 +57,7 @@ fn hop(jobs: &mut [[u32; 3]], a: usize, b: usize) -> bool
 }
 
 // Which of n links is the next after k, from the first on or from the last back.
+// A place and not two loops, one over the links and one over them in reverse: a loop each way is no plainer, since it would say the body and what it keeps twice.
 fn turned(back: bool, n: usize, k: usize) -> usize
     requires { k < n }
     ensures { result ≡ turn back n k }
@@ -74,7 +74,7 @@ fn sweep_links(links: &[[u16; 2]], jobs: &mut [[u32; 3]], back: bool) -> bool
     for k in 0..links.len() {
         let i = turned(back, links.len(), k);
         let l = links[i];
-        if hop(jobs, place(l[0]), place(l[1])) {
+        if hop(jobs, usize::from(l[0]), usize::from(l[1])) {
             changed = true;
         }
     }
@@ -103,8 +103,8 @@ pub(crate) fn falls(links: &[[u16; 2]], jobs: &[[u32; 3]]) -> bool
 {
     for k in 0..links.len() {
         let l = links[k];
-        let p = jobs[place(l[0])];
-        let q = jobs[place(l[1])];
+        let p = jobs[usize::from(l[0])];
+        let q = jobs[usize::from(l[1])];
         if p[2] <= q[2] {
             return false;
         }

@@ -6,7 +6,7 @@ ghost use Rattle.network.specs.Tables.{table_tasks, table_patterns};
 ghost use Rattle.network.specs.Named.{JobAsked, job_at, LoadAsked, share, BoundAsked, bound};
 
 use crate::Job;
-use kinds::{Attributes, Counts, Headings, wide};
+use kinds::{Attributes, Counts, Headings};
 
 // The job of a cycle that has number x.
 pub(crate) fn job_at(f: Counts, attributes: &Attributes, x: usize) -> Job
@@ -18,7 +18,7 @@ pub(crate) fn job_at(f: Counts, attributes: &Attributes, x: usize) -> Job
     let mut y = x;
     for i in 0..n {
         let t = kinds::task_at(attributes, i);
-        let k = wide(h / t.period);
+        let k = (h / t.period) as usize;
         if y < k {
             return Job {
                 task: i as u32,
@@ -58,8 +58,8 @@ pub(crate) fn most_links(f: Counts, attributes: &Attributes, headings: &Headings
     let mut sum: usize = 0;
     for k in 0..n {
         let p = kinds::pattern_at(headings, k);
-        let t = kinds::task_at(attributes, wide(p.from));
-        sum += wide(p.pairs) * wide(h / t.period);
+        let t = kinds::task_at(attributes, p.from as usize);
+        sum += (p.pairs as usize) * ((h / t.period) as usize);
     }
     sum
 }

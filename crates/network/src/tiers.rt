@@ -7,7 +7,7 @@ use crate::Trouble;
 use crate::links::expand;
 use crate::sums::most_links;
 use crate::times::solve_in;
-use kinds::{Attributes, Counts, Headings, Pairs, wide};
+use kinds::{Attributes, Counts, Headings, Pairs};
 
 // With tables for so many links and jobs.
 fn solve_tabled<const LINKS: usize, const JOBS: usize>(
@@ -23,7 +23,7 @@ fn solve_tabled<const LINKS: usize, const JOBS: usize>(
     ensures { TroubleIn (table_set f attributes.now headings.now pairs.now) result
         releases.old deadlines.old releases.new deadlines.new }
 {
-    let n = wide(f.jobs);
+    let n = f.jobs as usize;
     let mut links = [[0u16; 2]; LINKS];
     let mut next = [0u16; LINKS];
     let mut jobs = [[0u32; 3]; JOBS];
@@ -52,7 +52,7 @@ pub(crate) fn solve_sized(
     ensures { TroubleIn (table_set f attributes.now headings.now pairs.now) result
         releases.old deadlines.old releases.new deadlines.new }
 {
-    let n = wide(f.jobs);
+    let n = f.jobs as usize;
     if n <= 256 {
         if most_links(f, attributes, headings) <= 512 {
             return solve_tabled::<512, 256>(f, attributes, headings, pairs, releases, deadlines);

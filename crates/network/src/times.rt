@@ -13,7 +13,7 @@ ghost use Rattle.network.specs.JobTimes.{top, signed_release, signed_due, job_ro
 use crate::Trouble;
 use crate::settle::{falls, settle};
 use crate::sums::job_at;
-use kinds::{Attributes, Counts, Task, wide};
+use kinds::{Attributes, Counts, Task};
 use loops::lowest_on_cycle;
 
 // The k jobs of a task, from place b on.
@@ -41,7 +41,7 @@ fn own_times(f: Counts, attributes: &Attributes, jobs: &mut [[u32; 3]])
     let mut b: usize = 0;
     for i in 0..n {
         let t = kinds::task_at(attributes, i);
-        let k = wide(h / t.period);
+        let k = (h / t.period) as usize;
         put_jobs(jobs, b, k, t);
         b += k;
     }
@@ -122,7 +122,7 @@ fn left_of(x: u32) -> i32
     12000 - (x as i32)
 }
 
-// A number as it is, signed.
+// A number as it is, signed. A cast and no conversion: one that may fail would need a way out, and the bound rules it out.
 fn plain(x: u32) -> i32
     requires { x ≤ limit }
     ensures { result ≡ pos x }

@@ -5,8 +5,8 @@ use Rattle.dispatcher.proofs.start_verdict.Goals as goal
 pub returns-then-state-eq-BYTES : goal.returns-then-state-eq-BYTES
 returns-then-state-eq-BYTES c = right_state _ _ _ c.if-state-eq-BYTES.true c.judge_head.ensures
 
-pub returns-then-take_head : goal.returns-then-take_head
-returns-then-take_head c = wrong_state _ _ _ c.if-state-eq-BYTES.false c.take_head.ensures (sym c.is_some.ensures ∙ c.if-take_head.true)
+pub returns-then-is_some : goal.returns-then-is_some
+returns-then-is_some c = wrong_state _ _ _ c.if-state-eq-BYTES.false c.take_head.ensures (sym c.is_some.ensures ∙ c.if-is_some.true)
 
 pub returns : goal.returns
-returns c = no_tasks_lem _ _ _ c.take_head.ensures (sym c.is_some.ensures ∙ c.if-take_head.false)
+returns c = no_tasks_lem _ _ _ c.take_head.ensures (sym c.is_some.ensures ∙ c.if-is_some.false)

@@ -1,3 +1,4 @@
+use mathlib.Core.Path.{refl}
 use Rattle.network.specs.Outcome.{load_needs, room_fits, solved_for}
 use native.Mathlib.Omega.{arith}
 use Rattle.network.proofs.solve_in.Goals as goal
@@ -9,4 +10,4 @@ pub overflow_mul-result : goal.overflow_mul-result
 overflow_mul-result c = omega (arith, room_fits _ _ _ _ c.requires)
 
 pub returns : goal.returns
-returns c = solved_for _ _ _ _ c.requires c.solve_sized-trouble.ensures c.wide.ensures.0 c.load_of-load.ensures
+returns c = solved_for _ _ _ _ c.requires c.solve_sized-trouble.ensures refl c.load_of-load.ensures

@@ -17,12 +17,12 @@ pub bounds-links-i : goal.bounds-links-i
 bounds-links-i c = omega (arith, turn_low c.args.back _ _ c.loop-k-test.true, c.turned-i.ensures)
 
 pub hop-requires : goal.hop-requires
-hop-requires c = sweep_hop _ _ _ c.requires _ _ _ c.loop-k.invariant c.loop-k-test.true c.turned-i.ensures c.place.ensures.0 c.place-in-loop-k.ensures.0
+hop-requires c = sweep_hop _ _ _ c.requires _ _ _ c.loop-k.invariant c.loop-k-test.true c.turned-i.ensures c.from.ensures c.from-in-loop-k.ensures
 
 pub loop-k-preserved : goal.loop-k-preserved
 loop-k-preserved c = elim c.if-hop.branch [
-  | then-hop w ↦ sweep_on _ _ _ c.requires _ _ _ c.loop-k.invariant c.loop-k-test.true c.turned-i.ensures c.place.ensures.0 c.place-in-loop-k.ensures.0 _ _ _ c.hop.ensures (λ e. clash w.changed-is e)
-  | else-hop w ↦ sweep_on _ _ _ c.requires _ _ _ c.loop-k.invariant c.loop-k-test.true c.turned-i.ensures c.place.ensures.0 c.place-in-loop-k.ensures.0 _ _ _ c.hop.ensures (λ e. (sym w.changed-is ∙ e, w.if-hop.false))
+  | then-hop w ↦ sweep_on _ _ _ c.requires _ _ _ c.loop-k.invariant c.loop-k-test.true c.turned-i.ensures c.from.ensures c.from-in-loop-k.ensures _ _ _ c.hop.ensures (λ e. clash w.changed-is e)
+  | else-hop w ↦ sweep_on _ _ _ c.requires _ _ _ c.loop-k.invariant c.loop-k-test.true c.turned-i.ensures c.from.ensures c.from-in-loop-k.ensures _ _ _ c.hop.ensures (λ e. (sym w.changed-is ∙ e, w.if-hop.false))
 ]
 
 pub shape_of-jobs : goal.shape_of-jobs

@@ -1,3 +1,4 @@
+use mathlib.Core.Path.{refl}
 use Rattle.network.specs.Outcome.{bound_needs, fits_small, fits_large}
 use Rattle.network.proofs.tiers.solve_sized.Goals as goal
 
@@ -5,7 +6,7 @@ pub most_links-requires : goal.most_links-requires
 most_links-requires c = bound_needs _ _ _ _ c.requires
 
 pub solve_tabled-requires-clause-fits : goal.solve_tabled-requires-clause-fits
-solve_tabled-requires-clause-fits c = fits_small _ _ _ _ c.requires c.wide-n.ensures.0 c.if-n-le256.true c.most_links.ensures c.if-most_links-le512.true
+solve_tabled-requires-clause-fits c = fits_small _ _ _ _ c.requires refl c.if-n-le256.true c.most_links.ensures c.if-most_links-le512.true
 
 pub shape_of-releases-then-most_links-le512 : goal.shape_of-releases-then-most_links-le512
 shape_of-releases-then-most_links-le512 c = c.solve_tabled.auto.releases

@@ -1,3 +1,4 @@
+use mathlib.Core.Path.{refl}
 use Rattle.network.specs.Outcome.{expand_asked, solve_asked, trouble_in}
 use Rattle.std.proofs.lemmas.List.{length-replicate}
 use native.Mathlib.Omega.{arith}
@@ -16,10 +17,10 @@ pub whole_as_front-solve_in : goal.whole_as_front-solve_in
 whole_as_front-solve_in g c = (omega (arith, c.expand-e.ensures.few, c.requires.fits.links), omega (arith, c.requires.small.1))
 
 pub whole_as_front-solve_in-2 : goal.whole_as_front-solve_in-2
-whole_as_front-solve_in-2 g c = (omega (arith, c.wide-n.ensures.0, c.requires.fits.jobs), omega (arith, c.requires.small.0))
+whole_as_front-solve_in-2 g c = (omega (arith, c.requires.fits.jobs), omega (arith, c.requires.small.0))
 
 pub solve_in-requires : goal.solve_in-requires
-solve_in-requires g c = solve_asked _ _ _ _ c.requires.fits.numbers _ _ c.expand-e.ensures _ _ _ _ _ (length-replicate _ _) (length-replicate _ _) (omega (arith, c.expand-e.ensures.few, c.requires.fits.links)) c.wide-n.ensures.0 (omega (arith, c.wide-n.ensures.0, c.requires.fits.jobs))
+solve_in-requires g c = solve_asked _ _ _ _ c.requires.fits.numbers _ _ c.expand-e.ensures _ _ _ _ _ (length-replicate _ _) (length-replicate _ _) (omega (arith, c.expand-e.ensures.few, c.requires.fits.links)) refl (omega (arith, c.requires.fits.jobs))
 
 pub returns : goal.returns
 returns g c = trouble_in _ _ _ _ c.requires.fits.numbers _ _ c.expand-e.ensures _ _ _ _ _ _ c.solve_in.ensures
