@@ -132,6 +132,13 @@ pub fn save_named(
     }
 }
 
+// How many bytes of a text count, at most all.
+fn within(n: usize, text: &[u8]) -> usize
+    ensures { IsPrefixLen result text.now }
+{
+    n.min(text.len())
+}
+
 // A number without its sign.
 fn size_of(x: i32) -> u64
     ensures { result ≡ size_of x }
@@ -180,7 +187,7 @@ impl Line {
     pub fn put_first(self, words: &[u8], n: usize) -> Line
         ensures { Continues self result }
     {
-        let k = n.min(words.len());
+        let k = within(n, words);
         self.put(&words[..k])
     }
 

@@ -11,7 +11,7 @@ use Rattle.vocabulary.specs.Least.{least}
 use Rattle.vocabulary.proofs.Total.{total_none}
 use Rattle.vocabulary.specs.Table.{table}
 use Rattle.vocabulary.proofs.Table.{is_table, length_table, get_or_table}
-use Rattle.graph.specs.Graph.{Graph, graph_of, lowest, lowest_job, loops}
+use Rattle.graph.specs.Graph.{Graph, graph_of, lowest, lowest_job as job_in, loops}
 use Rattle.graph.specs.Reach.{Free}
 use Rattle.graph.specs.Longest.{rounds}
 use Rattle.graph.specs.Soonest.{soonest}
@@ -25,7 +25,7 @@ use Rattle.graph.specs.JobRows.{starts, ends, Ready, Rounds}
 use Rattle.graph.specs.SearchRows.{SearchAsked}
 use Rattle.graph.specs.Listed.{Weighted}
 use Rattle.graph.proofs.Listed.{settled_rounds, settled_soonest}
-use Rattle.vocabulary.proofs.Least.{some_least, none_least, some_not, least_is, lowest_some, lowest_none}
+use Rattle.vocabulary.proofs.Least.{some_least, none_least, some_not, lowest_none}
 use Rattle.loops.specs.LentLinks.{lowest_in}
 use Rattle.loops.proofs.LentLaws.{lowest_of}
 use Rattle.kinds.specs.declared.Task.{Task}
@@ -379,11 +379,11 @@ module _ (u : Tasks) (h : ℕ) (links : List (List ℕ)) (next : List ℕ) (rows
       record { between = rw e a.rounds.between; long = a.long; few_links = a.few_links; few_jobs = omega (arith, a.rounds.own.fit.few_jobs) }
 
   module _ (rows'' : List (List ℕ)) (sized : length rows'' ≡ length rows') where
-    lowest_is : {x : Option ℕ} → x ≡ lowest_in links (length next) (length rows') → x ≡ lowest_job (graph_of (starts links) (ends links) (jobs u))
-    lowest_is ex = ex ∙ lowest_of links next rows' search_asked ∙ ap (λ (n : ℕ). lowest_job (graph_of (starts links) (ends links) n)) q.sized
+    lowest_is : {x : Option ℕ} → x ≡ lowest_in links (length next) (length rows') → x ≡ job_in (graph_of (starts links) (ends links) (jobs u))
+    lowest_is ex = ex ∙ lowest_of links next rows' search_asked ∙ ap (λ (n : ℕ). job_in (graph_of (starts links) (ends links) n)) q.sized
 
     pub solved_cycle : {x : ℕ} → Some x ≡ lowest_in links (length next) (length rows') → Solved u links rows'' (Some x)
-    unfolding lowest_job
+    unfolding job_in
     solved_cycle {x} ex =
         record { sized = sized ∙ q.sized; answer = lowest_is ex; times = λ m. absurd (let z : ◌≡◌ {A = ℕ} 0 1 = cc m in omega arith) }
 
@@ -392,7 +392,7 @@ module _ (u : Tasks) (h : ℕ) (links : List (List ℕ)) (next : List ℕ) (rows
 
     pub solved_late : None ≡ lowest_in links (length next) (length rows') → (rows''' : List (List ℕ)) (b : Bool)
         → Adjusts u links rows'' rows''' (length rows'') b → Solved u links rows''' None
-    unfolding lowest_job
+    unfolding job_in
     solved_late ex rows''' b p =
         let n : length rows'' ≡ jobs u = sized ∙ q.sized in
         let g : Graph = graph_of (starts links) (ends links) (jobs u) in

@@ -23,6 +23,7 @@ use Rattle.graph.specs.JobRows.{starts, ends}
 use Rattle.graph.specs.Pass.{at}
 use Rattle.graph.specs.Cycle.{Between}
 use Rattle.kinds.specs.declared.Counts.{Counts}
+use Rattle.kinds.specs.declared.Tables.{Tables}
 use Rattle.kinds.specs.declared.Task.{Task}
 use Rattle.kinds.specs.declared.Pattern.{Pattern}
 use Rattle.kinds.specs.declared.Pair.{Pair}
@@ -40,7 +41,8 @@ use Rattle.laws.proofs.Blocks.{jobs_in_rounds, some_round}
 use Rattle.network.specs.declared.Stride.{Stride}
 use Rattle.network.specs.Network.{Link, no_link, link_of, pair_links, pattern_links, cycle_links, link_starts, link_ends, network}
 use Rattle.network.specs.NetworkLaws.{pair_links_lem, links_few, inside_network}
-use Rattle.network.specs.Tables.{table_tasks, table_patterns, table_set, Numbered, numbered_sound}
+use Rattle.network.specs.Tables.{Numbered, numbered_sound}
+use Rattle.kinds.specs.Build.{lent_tasks, lent_patterns, lent_set}
 use Rattle.network.specs.Placed.{Placed, place_from, place_on, place_end}
 
 -- a link as it stands in a row
@@ -507,32 +509,32 @@ pub record Wired (s : Set) (e : ℕ) (v : List (List ℕ)) : Type 0 where
   pub to : ends (take e v) ≡ link_ends s.tasks s.patterns
 
 -- what writing them asks: room for them
-pub record ExpandAsked (f : Counts) (xs hs ps : List ℕ) (size : ℕ) : Type 0 where
-  pub numbers : Numbered f xs hs ps
-  pub room : links (table_tasks f xs) (table_patterns f hs ps) ≤ size
+pub record ExpandAsked (f : Counts) (t : Tables) (size : ℕ) : Type 0 where
+  pub numbers : Numbered f t
+  pub room : links (lent_tasks f t) (lent_patterns f t) ≤ size
 
-module _ (f : Counts) (xs hs ps : List ℕ) (r : List (List ℕ)) (a : ExpandAsked f xs hs ps (length r)) where
-  sound : Sound (table_set f xs hs ps)
-  sound = numbered_sound f xs hs ps a.numbers
+module _ (f : Counts) (t : Tables) (r : List (List ℕ)) (a : ExpandAsked f t (length r)) where
+  sound : Sound (lent_set f t)
+  sound = numbered_sound f t a.numbers
 
-  pub bases_asked : (bs : List ℕ) → length bs ≡ 64 → BasesAsked f.ticks (table_tasks f xs) bs
+  pub bases_asked : (bs : List ℕ) → length bs ≡ 64 → BasesAsked f.ticks (lent_tasks f t) bs
   bases_asked bs e =
       record { few = sound.few_tasks; short = omega (arith, a.numbers.ticks, sound.low_cycle); some = sound.some_period; long = e }
 
-  module _ (bs : List ℕ) (b : FirstNumbers f.ticks (table_tasks f xs) bs) where
-    based : FirstNumbers (cycle (table_tasks f xs)) (table_tasks f xs) bs
+  module _ (bs : List ℕ) (b : FirstNumbers f.ticks (lent_tasks f t) bs) where
+    based : FirstNumbers (cycle (lent_tasks f t)) (lent_tasks f t) bs
     based = rw a.numbers.ticks at b
 
-    pub wired_asks : LinksAsked f.ticks xs bs (table_patterns f hs ps) (length r)
-    wired_asks = rw a.numbers.ticks (links_asked (table_set f xs hs ps) sound bs based (length r) a.room)
+    pub wired_asks : LinksAsked f.ticks t.attributes bs (lent_patterns f t) (length r)
+    wired_asks = rw a.numbers.ticks (links_asked (lent_set f t) sound bs based (length r) a.room)
 
-    pub wired : (e : ℕ) (r' : List (List ℕ)) → Appended (made_links f.ticks xs bs (table_patterns f hs ps)) 0 e r r' → Wired (table_set f xs hs ps) e r'
+    pub wired : (e : ℕ) (r' : List (List ℕ)) → Appended (made_links f.ticks t.attributes bs (lent_patterns f t)) 0 e r r' → Wired (lent_set f t) e r'
     unfolding link_starts link_ends
     wired e r' q =
-        let gs : List Link = cycle_links (table_tasks f xs) (table_patterns f hs ps) in
-        let p : Appended gs 0 e r r' = rw (a.numbers.ticks, made_links_lem (table_set f xs hs ps) sound bs based) at q in
+        let gs : List Link = cycle_links (lent_tasks f t) (lent_patterns f t) in
+        let p : Appended gs 0 e r r' = rw (a.numbers.ticks, made_links_lem (lent_set f t) sound bs based) at q in
         let n : e ≡ length gs = omega (arith, p.end) in
-        let most = links_few (table_tasks f xs) (table_patterns f hs ps) in
+        let most = links_few (lent_tasks f t) (lent_patterns f t) in
         let few : e ≤ length r' = omega (arith, most, a.room, p.long) in
         record {
           fits = few;
@@ -546,14 +548,14 @@ module _ (f : Counts) (xs hs ps : List ℕ) (r : List (List ℕ)) (a : ExpandAsk
         }
       where
         one : (c : ℕ) (way : Link → ℕ) → ((z : Link) → get_or (row_of z) c 0 ≡ way z) → (e : ℕ) (r' : List (List ℕ))
-            → Appended (cycle_links (table_tasks f xs) (table_patterns f hs ps)) 0 e r r' → (i : ℕ)
-            → i < length (cycle_links (table_tasks f xs) (table_patterns f hs ps)) → e ≡ length (cycle_links (table_tasks f xs) (table_patterns f hs ps))
-            → at (column c (take e r')) i ≡ way (get_or (cycle_links (table_tasks f xs) (table_patterns f hs ps)) i no_link)
+            → Appended (cycle_links (lent_tasks f t) (lent_patterns f t)) 0 e r r' → (i : ℕ)
+            → i < length (cycle_links (lent_tasks f t) (lent_patterns f t)) → e ≡ length (cycle_links (lent_tasks f t) (lent_patterns f t))
+            → at (column c (take e r')) i ≡ way (get_or (cycle_links (lent_tasks f t) (lent_patterns f t)) i no_link)
         one c way h e r' p i l n =
             let z : 0 + i ≡ i = omega arith in
             column_at c (take e r') i
             ∙ ap (λ (x : List ℕ). get_or x c 0) (get_or-take e r' i [] (omega arith) ∙ ap (λ (m : ℕ). get_or r' m []) (sym z) ∙ p.here i l)
-            ∙ h (get_or (cycle_links (table_tasks f xs) (table_patterns f hs ps)) i no_link)
+            ∙ h (get_or (cycle_links (lent_tasks f t) (lent_patterns f t)) i no_link)
 
 -- so they make the network
 module _ (s : Set) (sound : Sound s) (e : ℕ) (v : List (List ℕ)) (w : Wired s e v) where

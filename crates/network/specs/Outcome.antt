@@ -23,7 +23,8 @@ use Rattle.graph.specs.JobRows as row
 use Rattle.graph.specs.JobRows.{starts, ends}
 use Rattle.graph.proofs.Listed.{below_sub}
 use Rattle.kinds.specs.declared.Counts.{Counts}
-use Rattle.kinds.specs.Tasks.{Tasks, Set, tasks_of, view}
+use Rattle.kinds.specs.declared.Tables.{Tables}
+use Rattle.kinds.specs.Tasks.{Tasks, Set, tasks_of, patterns_of, view}
 use Rattle.kinds.specs.Cycle.{jobs}
 use Rattle.kinds.specs.Links.{links}
 use Rattle.kinds.proofs.SoundFacts.{Sound}
@@ -34,10 +35,12 @@ use Rattle.network.specs.NetworkLaws.{jobs_of_network}
 use Rattle.network.specs.Times.{own_release, own_due, own_running, release_by, adjusted_release, adjusted_deadline}
 use Rattle.network.specs.Causes.{on_cycle, tight_by, tight, lowest_cycle, lowest_tight, releases_of, deadlines_of}
 use Rattle.network.specs.FoundOf.{tight_by as tight_in, trouble_of, found_of, times_fit, releases_put, deadlines_put, SolvedFor}
-use Rattle.heads.specs.Tables.{PatternTables}
-use Rattle.reader.specs.Files.{taken_of, not_taken}
-use Rattle.reader.proofs.ReadLaws.{WholeHead, none_sound}
-use Rattle.network.specs.Tables.{table_tasks, table_patterns, table_set, Numbered, numbered_sound}
+use Rattle.heads.specs.Tables.{PatternTables, no_pattern_tables}
+use Rattle.reader.specs.Files.{set_taken, whole_read, whole_from}
+use Rattle.reader.proofs.ReadLaws.{none_sound}
+use Rattle.reader.proofs.WholeLaws.{whole_none, whole_some}
+use Rattle.network.specs.Tables.{Numbered, numbered_sound}
+use Rattle.kinds.specs.Build.{no_tasks, tables_of, lent_tasks, lent_patterns, lent_set}
 use Rattle.network.specs.LinkLists.{Wired, ExpandAsked, wired_network, wired_between}
 use Rattle.network.specs.JobTimes.{top, tasks_fit, SolveAsked, TimesIn, over, signed_release, signed_due, sizes_fit, lowest_job, Worked, table_same}
 use Rattle.network.specs.Named.{LoadAsked, load_asked, share, load_is, room_is, room_low, BoundAsked, bound}
@@ -91,27 +94,27 @@ pub record TroubleIn (s : Set) (r : Option Trouble) (a b a' b' : List ℤ) : Typ
   pub deadlines : b' ≡ deadlines_put s a b
 
 -- a set of at most so many jobs and links
-pub record FitsTables (f : Counts) (xs hs ps : List ℕ) (most size : ℕ) : Type 0 where
-  pub numbers : Numbered f xs hs ps
+pub record FitsTables (f : Counts) (t : Tables) (most size : ℕ) : Type 0 where
+  pub numbers : Numbered f t
   pub jobs : f.jobs ≤ most
-  pub links : links (table_tasks f xs) (table_patterns f hs ps) ≤ size
+  pub links : links (lent_tasks f t) (lent_patterns f t) ≤ size
 
-pub expand_asked : (f : Counts) (xs hs ps : List ℕ) (most size : ℕ) → FitsTables f xs hs ps most size → (n : ℕ) → n ≡ size → ExpandAsked f xs hs ps n
-expand_asked f xs hs ps most size w n e = record { numbers = w.numbers; room = omega (arith, w.links) }
+pub expand_asked : (f : Counts) (t : Tables) (most size : ℕ) → FitsTables f t most size → (n : ℕ) → n ≡ size → ExpandAsked f t n
+expand_asked f t most size w n e = record { numbers = w.numbers; room = omega (arith, w.links) }
 
-module _ (f : Counts) (xs hs ps : List ℕ) (n : Numbered f xs hs ps) where
+module _ (f : Counts) (t : Tables) (n : Numbered f t) where
   abbrev s : Set
-  s = table_set f xs hs ps
+  s = lent_set f t
 
-  sound_set : Sound (table_set f xs hs ps)
-  sound_set = numbered_sound f xs hs ps n
+  sound_set : Sound (lent_set f t)
+  sound_set = numbered_sound f t n
 
-  module _ (e : ℕ) (v : List (List ℕ)) (w : Wired (table_set f xs hs ps) e v) where
+  module _ (e : ℕ) (v : List (List ℕ)) (w : Wired (lent_set f t) e v) where
     pub wired_few : e ≤ 4096
     wired_few = omega (arith, w.few, sound_set.few_links)
 
     pub solve_asked : (m size most : ℕ) (next : List ℕ) (rows : List (List ℕ)) → length next ≡ size → length rows ≡ most → e ≤ size → m ≡ f.jobs → m ≤ most
-        → SolveAsked (table_tasks f xs) f.ticks (take e v) (take e next) (take m rows)
+        → SolveAsked (lent_tasks f t) f.ticks (take e v) (take e next) (take m rows)
     solve_asked m size most next rows en er le em lm =
         record {
           rounds = record {
@@ -122,63 +125,63 @@ module _ (f : Counts) (xs hs ps : List ℕ) (n : Numbered f xs hs ps) where
           few_links = omega (arith, taken e (length v) v refl w.fits, wired_few);
         }
 
-    pub trouble_in : (rows : List (List ℕ)) (r : Option Trouble) (a b a' b' : List ℤ) → Worked (table_tasks f xs) (take e v) rows r a b a' b'
-        → TroubleIn (table_set f xs hs ps) r a b a' b'
+    pub trouble_in : (rows : List (List ℕ)) (r : Option Trouble) (a b a' b' : List ℤ) → Worked (lent_tasks f t) (take e v) rows r a b a' b'
+        → TroubleIn (lent_set f t) r a b a' b'
     unfolding releases_put deadlines_put times_fit trouble_of
-    trouble_in rows r a b a' b' p = go (lt_or_le (lowest_job (table_tasks f xs) (take e v)) (jobs (table_tasks f xs)))
+    trouble_in rows r a b a' b' p = go (lt_or_le (lowest_job (lent_tasks f t) (take e v)) (jobs (lent_tasks f t)))
       where
-        same : lowest_job (table_tasks f xs) (take e v) ≡ lowest_cycle s
+        same : lowest_job (lent_tasks f t) (take e v) ≡ lowest_cycle s
         same = lowest_is s sound_set e v rows w refl
 
-        go : (lowest_job (table_tasks f xs) (take e v) < jobs (table_tasks f xs)) ⊎ (jobs (table_tasks f xs) ≤ lowest_job (table_tasks f xs) (take e v))
-            → TroubleIn (table_set f xs hs ps) r a b a' b'
+        go : (lowest_job (lent_tasks f t) (take e v) < jobs (lent_tasks f t)) ⊎ (jobs (lent_tasks f t) ≤ lowest_job (lent_tasks f t) (take e v))
+            → TroubleIn (lent_set f t) r a b a' b'
         go (inl l) =
             let z = p.cyclic l in
-            let q = lt-ltb (lowest_cycle s) (jobs (table_tasks f xs)) (omega (arith, same)) in
-            let h = lt-leb (jobs (table_tasks f xs)) (lowest_cycle s) (omega (arith, same)) in
+            let q = lt-ltb (lowest_cycle s) (jobs (lent_tasks f t)) (omega (arith, same)) in
+            let h = lt-leb (jobs (lent_tasks f t)) (lowest_cycle s) (omega (arith, same)) in
             record { trouble = z.0 ∙ rw (q, same); releases = z.1 ∙ rw (n.is_sound, h); deadlines = z.2 ∙ rw (n.is_sound, h) }
         go (inr l) =
             let z = p.free l in
-            let t = z.2 in
-            let q = le-ltb (lowest_cycle s) (jobs (table_tasks f xs)) (omega (arith, same)) in
-            let h = le-leb (jobs (table_tasks f xs)) (lowest_cycle s) (omega (arith, same)) in
-            let by : ℕ → List ℤ → List ℤ → List ℤ = λ m x y. pick (sizes_fit m (length a) (length b)) x y in
+            let m = z.2 in
+            let q = le-ltb (lowest_cycle s) (jobs (lent_tasks f t)) (omega (arith, same)) in
+            let h = le-leb (jobs (lent_tasks f t)) (lowest_cycle s) (omega (arith, same)) in
+            let by : ℕ → List ℤ → List ℤ → List ℤ = λ k x y. pick (sizes_fit k (length a) (length b)) x y in
             record {
               trouble =
                   z.0
-                  ∙ ap₂ (tight_in (table_tasks f xs)) t.sized (tight_is s sound_set e v rows w t)
+                  ∙ ap₂ (tight_in (lent_tasks f t)) m.sized (tight_is s sound_set e v rows w m)
                   ∙ rw q;
               releases =
                   z.1.releases
-                  ∙ ap₂ (λ (m : ℕ) (x : List ℤ). by m x a) t.sized (releases_are s sound_set e v rows w t)
+                  ∙ ap₂ (λ (k : ℕ) (x : List ℤ). by k x a) m.sized (releases_are s sound_set e v rows w m)
                   ∙ rw (n.is_sound, h);
               deadlines =
                   z.1.deadlines
-                  ∙ ap₂ (λ (m : ℕ) (x : List ℤ). by m x b) t.sized (deadlines_are s sound_set e v rows w t)
+                  ∙ ap₂ (λ (k : ℕ) (x : List ℤ). by k x b) m.sized (deadlines_are s sound_set e v rows w m)
                   ∙ rw (n.is_sound, h);
             }
 
   -- ---- which tables are large enough
-  pub bound_needs : BoundAsked f.ticks (tasks_of 0 xs) (table_patterns f hs [])
+  pub bound_needs : BoundAsked f.ticks (tasks_of 0 t.attributes) (patterns_of f.patterns t.headings [])
   bound_needs = bound_asked s sound_set f.ticks n.ticks
 
-  pub fits_small : {j b : ℕ} → j ≡ f.jobs → j ≤ 256 → b ≡ total (bound f.ticks (tasks_of 0 xs) (table_patterns f hs [])) f.patterns → b ≤ 512
-      → FitsTables f xs hs ps 256 512
+  pub fits_small : {j b : ℕ} → j ≡ f.jobs → j ≤ 256 → b ≡ total (bound f.ticks (tasks_of 0 t.attributes) (patterns_of f.patterns t.headings [])) f.patterns → b ≤ 512
+      → FitsTables f t 256 512
   fits_small ej lj eb lb = record { numbers = n; jobs = omega arith; links = omega (arith, links_bound s sound_set f.ticks n.ticks) }
 
-  pub fits_large : FitsTables f xs hs ps 2048 4096
+  pub fits_large : FitsTables f t 2048 4096
   fits_large = record { numbers = n; jobs = omega (arith, n.jobs, sound_set.few_jobs); links = sound_set.few_links }
 
   -- ---- the answers
-  pub load_needs : LoadAsked f.ticks (table_tasks f xs)
+  pub load_needs : LoadAsked f.ticks (lent_tasks f t)
   load_needs = load_asked s sound_set f.ticks n.ticks
 
   pub room_fits : f.processors * f.ticks ≤ 48000
   room_fits = room_low s sound_set f.ticks n.ticks
 
-  pub solved_for : {m l : ℕ} {r : Option Trouble} {a b a' b' : List ℤ} → TroubleIn (table_set f xs hs ps) r a b a' b' → m ≡ f.jobs
-      → l ≡ total (share f.ticks (table_tasks f xs)) f.tasks
-      → SolvedFor (table_set f xs hs ps) a b (Some (record { jobs = m; trouble = r; load = l; room = f.processors * f.ticks })) a' b'
+  pub solved_for : {m l : ℕ} {r : Option Trouble} {a b a' b' : List ℤ} → TroubleIn (lent_set f t) r a b a' b' → m ≡ f.jobs
+      → l ≡ total (share f.ticks (lent_tasks f t)) f.tasks
+      → SolvedFor (lent_set f t) a b (Some (record { jobs = m; trouble = r; load = l; room = f.processors * f.ticks })) a' b'
   unfolding found_of
   solved_for p em el =
       record {
@@ -196,11 +199,11 @@ unsolved s a b e = record { found = rw e; releases = rw e; deadlines = rw e }
 pub solved_as : (s t : Set) (a b : List ℤ) {r : Option Found} {a' b' : List ℤ} → s ≡ t → SolvedFor s a b r a' b' → SolvedFor t a b r a' b'
 solved_as s t a b e h = rw e at h
 
--- ---- tasks as a file's head
-module _ (tasks : List ℕ) (a b : List ℤ) where
-  pub unsolved_head : taken_of tasks ≡ not_taken → SolvedFor (view (taken_of tasks).set) a b None a b
-  unsolved_head e = rw e (unsolved (view not_taken.set) a b none_sound)
+-- ---- tasks as a file's head, whose entries are read into tables of zeros
+module _ (tasks t : List ℕ) (v : PatternTables) (a b : List ℤ) {c : Option Counts} (read : whole_read c t v ≡ whole_from tasks no_pattern_tables) where
+  pub unsolved_head : c ≡ None → SolvedFor (view (set_taken tasks)) a b None a b
+  unsolved_head z = rw (whole_none tasks t v read z) (unsolved (view (no_tasks 0 0)) a b none_sound)
 
-  pub solved_head : (f : Counts) (t : List ℕ) (v : PatternTables) {r : Option Found} {a' b' : List ℤ} → WholeHead tasks f t v
-      → SolvedFor (table_set f t v.headings v.pairs) a b r a' b' → SolvedFor (view (taken_of tasks).set) a b r a' b'
-  solved_head f t v w h = rw w.taken h
+  pub solved_head : {f : Counts} → c ≡ Some f → {r : Option Found} {a' b' : List ℤ} → SolvedFor (lent_set f (tables_of t v.headings v.pairs)) a b r a' b'
+      → SolvedFor (view (set_taken tasks)) a b r a' b'
+  solved_head z h = rw (whole_some tasks t v read z).taken h

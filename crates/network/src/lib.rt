@@ -3,11 +3,12 @@
 
 ghost use Rattle.std.specs.Prelude.{Some};
 ghost use Rattle.kinds.specs.Tasks.{view};
-ghost use Rattle.reader.specs.Files.{taken_of};
-ghost use Rattle.network.specs.Tables.{table_set, Numbered};
+ghost use Rattle.reader.specs.Files.{set_taken};
+ghost use Rattle.network.specs.Tables.{Numbered};
+ghost use Rattle.kinds.specs.Build.{lent_set};
 ghost use Rattle.network.specs.FoundOf.{SolvedFor};
 
-use kinds::{Attributes, Counts, Headings, Pairs, TaskSet};
+use kinds::{Counts, Tables, TaskSet};
 
 mod links;
 mod settle;
@@ -53,20 +54,13 @@ struct Stride {
 }
 
 // What is found of a sound set in tables.
-fn solve_in<'a>(
-    f: Counts,
-    attributes: &'a Attributes,
-    headings: &'a Headings,
-    pairs: &'a Pairs,
-    releases: &mut [i32],
-    deadlines: &mut [i32],
-) -> Found
-    requires { Numbered f attributes.now headings.now pairs.now }
-    ensures { SolvedFor (table_set f attributes.now headings.now pairs.now)
+fn solve_in(f: Counts, tables: &Tables, releases: &mut [i32], deadlines: &mut [i32]) -> Found
+    requires { Numbered f tables.now }
+    ensures { SolvedFor (lent_set f tables.now)
         releases.old deadlines.old (Some result) releases.new deadlines.new }
 {
-    let trouble = tiers::solve_sized(f, attributes, headings, pairs, releases, deadlines);
-    let load = sums::load_of(f, attributes);
+    let trouble = tiers::solve_sized(f, tables, releases, deadlines);
+    let load = sums::load_of(f, tables);
     Found {
         jobs: f.jobs as usize,
         trouble,
@@ -75,35 +69,23 @@ fn solve_in<'a>(
     }
 }
 
-// What is found of a set, none where it breaks rule 10; where links make no cycle and both buffers have a place for each job of one cycle, its adjusted release and deadline, by task,
-// then job. Else the buffers are left as they are.
+// What is found of a set, none where it breaks rule 10; where links make no cycle and both buffers have a place for each job of one cycle, its adjusted
+// release and deadline, by task, then job. Else the buffers are left as they are.
 pub fn solve(set: TaskSet, releases: &mut [i32], deadlines: &mut [i32]) -> Option<Found>
     ensures { SolvedFor (view set) releases.old deadlines.old result releases.new deadlines.new }
 {
     let f = kinds::counts_of(set)?;
-    let found = solve_in(
-        f,
-        &set.attributes,
-        &set.headings,
-        &set.pairs,
-        releases,
-        deadlines,
-    );
+    let found = solve_in(f, &set.tables, releases, deadlines);
     Some(found)
 }
 
 // The same on tasks as a file's head. Bytes that are no head, or more than one, are a set that breaks rule 10.
 pub fn solve_head(tasks: &[u8], releases: &mut [i32], deadlines: &mut [i32]) -> Option<Found>
-    ensures { SolvedFor (view (taken_of tasks.now).set) releases.old deadlines.old result
+    ensures { SolvedFor (view (set_taken tasks.now)) releases.old deadlines.old result
         releases.new deadlines.new }
 {
-    let mut attributes = [0u32; 256];
-    let mut headings = [0u32; 192];
-    let mut pairs = [0u16; 2048];
-    let f = reader::read_whole(tasks, &mut attributes, &mut headings, &mut pairs);
-    if f.ticks == 0 {
-        return None;
-    }
-    let found = solve_in(f, &attributes, &headings, &pairs, releases, deadlines);
+    let mut tables = Tables::new();
+    let f = reader::read_whole(tasks, &mut tables)?;
+    let found = solve_in(f, &tables, releases, deadlines);
     Some(found)
 }

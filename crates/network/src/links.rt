@@ -1,12 +1,12 @@
 // The links within one block between its jobs, in a row: where each comes from, and where it leads.
 ghost use Rattle.std.specs.Prelude.{◌≡◌, ◌+◌, length};
 ghost use Rattle.vocabulary.specs.Table.{join};
-ghost use Rattle.network.specs.Tables.{table_tasks, table_patterns, table_set};
+ghost use Rattle.kinds.specs.Build.{lent_tasks, lent_patterns, lent_set};
 ghost use Rattle.network.specs.Placed.{Placed};
 ghost use Rattle.network.specs.LinkLists.{Appended, stride_at, turns_of, step_row, StepsAsked, pair_made, PairsAsked, made_links, StrideAsked, LinksAsked, BasesAsked, FirstNumbers, Wired, ExpandAsked};
 
 use crate::Stride;
-use kinds::{Attributes, Counts, Headings, Pairs, Pattern};
+use kinds::{Attributes, Counts, Pairs, Pattern, Tables};
 
 // The links of the pair with numbers a and b that lie within the block, from place e on; where they end. The last rounds, as many as b leads on, lead out of it.
 fn put_steps(links: &mut [[u16; 2]], e: usize, s: Stride, a: u32, b: u32) -> usize
@@ -47,16 +47,16 @@ fn put_pairs(
 }
 
 // The first job of each task, by its number.
-fn fill_bases(f: Counts, attributes: &Attributes, base: &mut [u32; 64])
-    requires { BasesAsked f.ticks (table_tasks f attributes.now) base.old }
-    ensures { FirstNumbers f.ticks (table_tasks f attributes.now) base.new }
+fn fill_bases(f: Counts, tables: &Tables, base: &mut [u32; 64])
+    requires { BasesAsked f.ticks (lent_tasks f tables.now) base.old }
+    ensures { FirstNumbers f.ticks (lent_tasks f tables.now) base.new }
 {
     let n = f.tasks;
     let h = f.ticks;
     let mut b: u32 = 0;
     for i in 0..n {
         base[i] = b;
-        let t = kinds::task_at(attributes, i);
+        let t = kinds::task_at(&tables.attributes, i);
         b += h / t.period;
     }
 }
@@ -82,16 +82,9 @@ fn stride_of(h: u32, attributes: &Attributes, base: &[u32; 64], p: Pattern) -> S
 }
 
 // The links of all patterns, one pattern after another; how many there are.
-fn put_patterns(
-    f: Counts,
-    attributes: &Attributes,
-    headings: &Headings,
-    pairs: &Pairs,
-    base: &[u32; 64],
-    links: &mut [[u16; 2]],
-) -> usize
-    requires { LinksAsked f.ticks attributes.now base.now (table_patterns f headings.now pairs.now) (length links.old) }
-    ensures { Appended (made_links f.ticks attributes.now base.now (table_patterns f headings.now pairs.now)) 0 result
+fn put_patterns(f: Counts, tables: &Tables, base: &[u32; 64], links: &mut [[u16; 2]]) -> usize
+    requires { LinksAsked f.ticks tables.now.attributes base.now (lent_patterns f tables.now) (length links.old) }
+    ensures { Appended (made_links f.ticks tables.now.attributes base.now (lent_patterns f tables.now)) 0 result
         links.old links.new }
 {
     let n = f.patterns;
@@ -99,27 +92,21 @@ fn put_patterns(
     let mut e: usize = 0;
     let mut used: usize = 0;
     for k in 0..n {
-        let p = kinds::pattern_at(headings, k);
-        let s = stride_of(h, attributes, base, p);
+        let p = kinds::pattern_at(&tables.headings, k);
+        let s = stride_of(h, &tables.attributes, base, p);
         let m = p.pairs as usize;
-        e = put_pairs(pairs, used, m, s, e, links);
+        e = put_pairs(&tables.pairs, used, m, s, e, links);
         used += m;
     }
     e
 }
 
 // The links within one block; how many there are.
-pub(crate) fn expand(
-    f: Counts,
-    attributes: &Attributes,
-    headings: &Headings,
-    pairs: &Pairs,
-    links: &mut [[u16; 2]],
-) -> usize
-    requires { ExpandAsked f attributes.now headings.now pairs.now (length links.old) }
-    ensures { Wired (table_set f attributes.now headings.now pairs.now) result links.new }
+pub(crate) fn expand(f: Counts, tables: &Tables, links: &mut [[u16; 2]]) -> usize
+    requires { ExpandAsked f tables.now (length links.old) }
+    ensures { Wired (lent_set f tables.now) result links.new }
 {
     let mut base = [0u32; 64];
-    fill_bases(f, attributes, &mut base);
-    put_patterns(f, attributes, headings, pairs, &base, links)
+    fill_bases(f, tables, &mut base);
+    put_patterns(f, tables, &base, links)
 }

@@ -6,14 +6,14 @@ ghost use Rattle.vocabulary.specs.Least.{lowest};
 ghost use Rattle.vocabulary.specs.Table.{table};
 ghost use Rattle.graph.specs.Pass.{limit};
 ghost use Rattle.kinds.specs.Cycle.{jobs};
-ghost use Rattle.network.specs.Tables.{table_tasks};
+ghost use Rattle.kinds.specs.Build.{lent_tasks};
 ghost use Rattle.network.specs.Placed.{Placed};
 ghost use Rattle.network.specs.JobTimes.{top, signed_release, signed_due, job_row, JobsAsked, OwnAsked, OwnRows, RoundsAsked, Adjusts, Quick, SolveAsked, Solved, over, LowRows, WriteAsked, Put, Worked};
 
 use crate::Trouble;
 use crate::settle::{falls, settle};
 use crate::sums::job_at;
-use kinds::{Attributes, Counts, Task};
+use kinds::{Counts, Tables, Task};
 use loops::lowest_on_cycle;
 
 // The k jobs of a task, from place b on.
@@ -32,15 +32,15 @@ fn put_jobs(jobs: &mut [[u32; 3]], b: usize, k: usize, t: Task)
 }
 
 // The running time of each job of a cycle, its release, and how far before tick 12,000 it is due.
-fn own_times(f: Counts, attributes: &Attributes, jobs: &mut [[u32; 3]])
-    requires { OwnAsked (table_tasks f attributes.now) f.ticks jobs.old }
-    ensures { OwnRows (table_tasks f attributes.now) jobs.new }
+fn own_times(f: Counts, tables: &Tables, jobs: &mut [[u32; 3]])
+    requires { OwnAsked (lent_tasks f tables.now) f.ticks jobs.old }
+    ensures { OwnRows (lent_tasks f tables.now) jobs.new }
 {
     let n = f.tasks;
     let h = f.ticks;
     let mut b: usize = 0;
     for i in 0..n {
-        let t = kinds::task_at(attributes, i);
+        let t = kinds::task_at(&tables.attributes, i);
         let k = (h / t.period) as usize;
         put_jobs(jobs, b, k, t);
         b += k;
@@ -50,29 +50,24 @@ fn own_times(f: Counts, attributes: &Attributes, jobs: &mut [[u32; 3]])
 // Adjusted times, in at most so many rounds; whether the last changed nothing.
 fn adjust_rows(
     f: Counts,
-    attributes: &Attributes,
+    tables: &Tables,
     links: &[[u16; 2]],
     jobs: &mut [[u32; 3]],
     most: usize,
 ) -> bool
-    requires { RoundsAsked (table_tasks f attributes.now) f.ticks links.now jobs.old }
-    ensures { Adjusts (table_tasks f attributes.now) links.now jobs.old jobs.new most result }
+    requires { RoundsAsked (lent_tasks f tables.now) f.ticks links.now jobs.old }
+    ensures { Adjusts (lent_tasks f tables.now) links.now jobs.old jobs.new most result }
 {
-    own_times(f, attributes, jobs);
+    own_times(f, tables, jobs);
     settle(links, jobs, most)
 }
 
 // Adjusted times, where few rounds give them and show that no job lies on a cycle.
-fn adjust_soon(
-    f: Counts,
-    attributes: &Attributes,
-    links: &[[u16; 2]],
-    jobs: &mut [[u32; 3]],
-) -> bool
-    requires { RoundsAsked (table_tasks f attributes.now) f.ticks links.now jobs.old }
-    ensures { Quick (table_tasks f attributes.now) links.now jobs.old jobs.new result }
+fn adjust_soon(f: Counts, tables: &Tables, links: &[[u16; 2]], jobs: &mut [[u32; 3]]) -> bool
+    requires { RoundsAsked (lent_tasks f tables.now) f.ticks links.now jobs.old }
+    ensures { Quick (lent_tasks f tables.now) links.now jobs.old jobs.new result }
 {
-    if !adjust_rows(f, attributes, links, jobs, 64) {
+    if !adjust_rows(f, tables, links, jobs, 64) {
         return false;
     }
     falls(links, jobs)
@@ -81,22 +76,22 @@ fn adjust_soon(
 // The lowest job that lies on a cycle; where none does, adjusted times.
 fn solve(
     f: Counts,
-    attributes: &Attributes,
+    tables: &Tables,
     links: &[[u16; 2]],
     next: &mut [u16],
     jobs: &mut [[u32; 3]],
 ) -> Option<usize>
-    requires { SolveAsked (table_tasks f attributes.now) f.ticks links.now next.old jobs.old }
-    ensures { Solved (table_tasks f attributes.now) links.now jobs.new result }
+    requires { SolveAsked (lent_tasks f tables.now) f.ticks links.now next.old jobs.old }
+    ensures { Solved (lent_tasks f tables.now) links.now jobs.new result }
 {
-    if adjust_soon(f, attributes, links, jobs) {
+    if adjust_soon(f, tables, links, jobs) {
         return None;
     }
     if let Some(x) = lowest_on_cycle(links, next, jobs) {
         return Some(x);
     }
     let n = jobs.len();
-    adjust_rows(f, attributes, links, jobs, n);
+    adjust_rows(f, tables, links, jobs, n);
     None
 }
 
@@ -163,23 +158,23 @@ fn put_times(jobs: &[[u32; 3]], releases: &mut [i32], deadlines: &mut [i32])
 // The lowest job on a cycle; where there is none, the lowest that is too tight, and adjusted times are written.
 pub(crate) fn solve_in(
     f: Counts,
-    attributes: &Attributes,
+    tables: &Tables,
     links: &[[u16; 2]],
     next: &mut [u16],
     jobs: &mut [[u32; 3]],
     releases: &mut [i32],
     deadlines: &mut [i32],
 ) -> Option<Trouble>
-    requires { SolveAsked (table_tasks f attributes.now) f.ticks links.now next.old jobs.old }
-    ensures { Worked (table_tasks f attributes.now) links.now jobs.new result
+    requires { SolveAsked (lent_tasks f tables.now) f.ticks links.now next.old jobs.old }
+    ensures { Worked (lent_tasks f tables.now) links.now jobs.new result
         releases.old deadlines.old releases.new deadlines.new }
 {
-    if let Some(x) = solve(f, attributes, links, next, jobs) {
-        let j = job_at(f, attributes, x);
+    if let Some(x) = solve(f, tables, links, next, jobs) {
+        let j = job_at(f, tables, x);
         return Some(Trouble::Cycle(j));
     }
     put_times(jobs, releases, deadlines);
     let y = first_over(jobs)?;
-    let j = job_at(f, attributes, y);
+    let j = job_at(f, tables, y);
     Some(Trouble::Tight(j))
 }

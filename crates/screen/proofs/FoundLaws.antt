@@ -1,5 +1,5 @@
 -- The answers from what is found of a set.
-use Rattle.std.specs.Prelude.{Option, Some, None, Ok, Err}
+use Rattle.std.specs.Prelude.{Option, Some, None, is_some, unwrap_or, Ok, Err}
 use mathlib.Core.Path.{◌≡◌, refl, sym, ap, ap₂, ◌∙◌}
 use mathlib.Core.Bool.{Bool, true, false, ◌&&◌, ◌||◌, not}
 use mathlib.Core.List.{List, [], ◌∷◌}
@@ -18,8 +18,9 @@ use Rattle.kinds.specs.Tasks.{Tasks, Set, view}
 use Rattle.kinds.specs.Cycle.{jobs}
 use Rattle.kinds.specs.Jobs.{task_of_job, job_of_job}
 use Rattle.kinds.specs.Sound.{sound}
-use Rattle.reader.specs.declared.Taking.{Taking}
-use Rattle.reader.specs.Files.{taken_of, not_taken}
+use Rattle.kinds.specs.declared.TaskSet.{TaskSet}
+use Rattle.kinds.specs.Build.{no_tasks}
+use Rattle.reader.specs.Files.{taken_of, set_taken}
 use Rattle.reader.proofs.ReadLaws.{none_sound, not_taken_lem}
 use Rattle.network.specs.declared.Job.{Job}
 use Rattle.network.specs.declared.Trouble.TheVariants as trouble
@@ -211,48 +212,54 @@ answered s r d h e =
 
 -- ---- tasks as a file's head
 module _ (tasks : List ℕ) where
-  pub screened : {r : Option Finding} → r ≡ finding_of (view (taken_of tasks).set) → r ≡ screened_of tasks
-  unfolding screened_of
-  screened {r} e = go (taken_of tasks).fits refl
-    where
-      go : (b : Bool) → (taken_of tasks).fits ≡ b → r ≡ pick b (finding_of (view (taken_of tasks).set)) (Some finding.BadSet)
-      go true h = e
-      go false h = e ∙ ap (λ (t : Taking). finding_of (view t.set)) (not_taken_lem tasks h) ∙ not_sound (view not_taken.set) none_sound
+  abbrev none : TaskSet
+  none = no_tasks 0 0
 
-  pub adjusted_is : (p q : ℕ) → adjusted_of (view (taken_of tasks).set) p q ≡ adjusted_head tasks p q
-  unfolding adjusted_head
-  adjusted_is p q = go (taken_of tasks).fits refl
+  taken_none : is_some (taken_of tasks) ≡ false → set_taken tasks ≡ none
+  taken_none h = ap (λ (x : Option TaskSet). unwrap_or x none) (not_taken_lem tasks h)
+
+  pub screened : {r : Option Finding} → r ≡ finding_of (view (set_taken tasks)) → r ≡ screened_of tasks
+  unfolding screened_of
+  screened {r} e = go (is_some (taken_of tasks)) refl
     where
-      go : (b : Bool) → (taken_of tasks).fits ≡ b → adjusted_of (view (taken_of tasks).set) p q ≡ pick b (adjusted_of (view (taken_of tasks).set) p q) (Err unadjusted.BadSet)
+      go : (b : Bool) → is_some (taken_of tasks) ≡ b → r ≡ pick b (finding_of (view (set_taken tasks))) (Some finding.BadSet)
+      go true h = e
+      go false h = e ∙ ap (λ (t : TaskSet). finding_of (view t)) (taken_none h) ∙ not_sound (view none) none_sound
+
+  pub adjusted_is : (p q : ℕ) → adjusted_of (view (set_taken tasks)) p q ≡ adjusted_head tasks p q
+  unfolding adjusted_head
+  adjusted_is p q = go (is_some (taken_of tasks)) refl
+    where
+      go : (b : Bool) → is_some (taken_of tasks) ≡ b → adjusted_of (view (set_taken tasks)) p q ≡ pick b (adjusted_of (view (set_taken tasks)) p q) (Err unadjusted.BadSet)
       go true h = refl
-      go false h = ap (λ (t : Taking). adjusted_of (view t.set) p q) (not_taken_lem tasks h) ∙ sym (unsound_set (view not_taken.set) p q none_sound)
+      go false h = ap (λ (t : TaskSet). adjusted_of (view t) p q) (taken_none h) ∙ sym (unsound_set (view none) p q none_sound)
 
   module _ (r d : List ℤ) where
-    none_left : adjusted_of (view not_taken.set) (length r) (length d) ≡ Err unadjusted.BadSet
-    none_left = sym (unsound_set (view not_taken.set) (length r) (length d) none_sound)
+    none_left : adjusted_of (view none) (length r) (length d) ≡ Err unadjusted.BadSet
+    none_left = sym (unsound_set (view none) (length r) (length d) none_sound)
 
-    releases_are : releases_left (view (taken_of tasks).set) r d ≡ releases_kept tasks r d
+    releases_are : releases_left (view (set_taken tasks)) r d ≡ releases_kept tasks r d
     unfolding releases_kept releases_left
-    releases_are = go (taken_of tasks).fits refl
+    releases_are = go (is_some (taken_of tasks)) refl
       where
-        go : (b : Bool) → (taken_of tasks).fits ≡ b
-            → releases_left (view (taken_of tasks).set) r d ≡ pick b (releases_left (view (taken_of tasks).set) r d) r
+        go : (b : Bool) → is_some (taken_of tasks) ≡ b
+            → releases_left (view (set_taken tasks)) r d ≡ pick b (releases_left (view (set_taken tasks)) r d) r
         go true h = refl
-        go false h = rw (not_taken_lem tasks h, none_left)
+        go false h = rw (taken_none h, none_left)
 
-    deadlines_are : deadlines_left (view (taken_of tasks).set) r d ≡ deadlines_kept tasks r d
+    deadlines_are : deadlines_left (view (set_taken tasks)) r d ≡ deadlines_kept tasks r d
     unfolding deadlines_kept deadlines_left
-    deadlines_are = go (taken_of tasks).fits refl
+    deadlines_are = go (is_some (taken_of tasks)) refl
       where
-        go : (b : Bool) → (taken_of tasks).fits ≡ b
-            → deadlines_left (view (taken_of tasks).set) r d ≡ pick b (deadlines_left (view (taken_of tasks).set) r d) d
+        go : (b : Bool) → is_some (taken_of tasks) ≡ b
+            → deadlines_left (view (set_taken tasks)) r d ≡ pick b (deadlines_left (view (set_taken tasks)) r d) d
         go true h = refl
-        go false h = rw (not_taken_lem tasks h, none_left)
+        go false h = rw (taken_none h, none_left)
 
-    pub answered_head : {f : Option Found} {r' d' : List ℤ} → SolvedFor (view (taken_of tasks).set) r d f r' d' → {a : Adjusted}
-        → a ≡ adjusted_of (view (taken_of tasks).set) (length r) (length d) → AdjustedBy (λ b. b) tasks r d a r' d'
+    pub answered_head : {f : Option Found} {r' d' : List ℤ} → SolvedFor (view (set_taken tasks)) r d f r' d' → {a : Adjusted}
+        → a ≡ adjusted_of (view (set_taken tasks)) (length r) (length d) → AdjustedBy (λ b. b) tasks r d a r' d'
     answered_head h e =
-        let w = answered (view (taken_of tasks).set) r d h e in
+        let w = answered (view (set_taken tasks)) r d h e in
         record {
           answer = e ∙ adjusted_is (length r) (length d);
           releases = w.releases ∙ releases_are;

@@ -19,7 +19,8 @@ unfolding finding_by screen_rules first_of
 not_sound s e = rw e
 
 module _ (s : Set) (e : sound s ≡ true) where
-  pub on_cycle_lem : lowest_cycle s < jobs s.tasks → finding_of s ≡ Some (finding.Cycle (task_of_job s.tasks (lowest_cycle s)) (job_of_job s.tasks (lowest_cycle s)))
+  pub on_cycle_lem : lowest_cycle s < jobs s.tasks
+      → finding_of s ≡ Some (finding.Cycle (task_of_job s.tasks (lowest_cycle s)) (job_of_job s.tasks (lowest_cycle s)))
   unfolding finding_by screen_rules first_of
   on_cycle_lem l = rw (e, lt-ltb _ _ l)
 

@@ -1,9 +1,9 @@
 -- The screen and adjusted times for C, which passes tasks and m as the bytes of a head (rules R12.1, R12.6).
-use Rattle.std.specs.Prelude.{◌≡◌, List, ℕ, ℤ, length, Option, Some, Err}
+use Rattle.std.specs.Prelude.{◌≡◌, List, ℕ, ℤ, length, Option, Some, is_some, Err}
 use Rattle.std.proofs.Common.{sym, ◌∙◌}
 use Rattle.vocabulary.specs.Test.{pick}
 use Rattle.kinds.specs.Tasks.{view}
-use Rattle.reader.specs.Files.{taken_of}
+use Rattle.reader.specs.Files.{taken_of, set_taken}
 use Rattle.screen.specs.declared.Finding.{Finding}
 use Rattle.screen.specs.declared.Finding.TheVariants as finding
 use Rattle.screen.specs.Answers.{Adjusted}
@@ -11,18 +11,18 @@ use Rattle.screen.specs.declared.Unadjusted.TheVariants as unadjusted
 use Rattle.screen.specs.Findings.{finding_of, adjusted_of, releases_left, deadlines_left}
 
 unfoldable pub screened_of : List ℕ → Option Finding
-screened_of tasks = pick (taken_of tasks).fits (finding_of (view (taken_of tasks).set)) (Some finding.BadSet)
+screened_of tasks = pick (is_some (taken_of tasks)) (finding_of (view (set_taken tasks))) (Some finding.BadSet)
 
 -- the answer, for buffers of p and q places
 unfoldable pub adjusted_head : List ℕ → ℕ → ℕ → Adjusted
-adjusted_head tasks p q = pick (taken_of tasks).fits (adjusted_of (view (taken_of tasks).set) p q) (Err unadjusted.BadSet)
+adjusted_head tasks p q = pick (is_some (taken_of tasks)) (adjusted_of (view (set_taken tasks)) p q) (Err unadjusted.BadSet)
 
 -- what the buffers hold afterwards; a refusal leaves both as they are
 unfoldable pub releases_kept : List ℕ → List ℤ → List ℤ → List ℤ
-releases_kept tasks r d = pick (taken_of tasks).fits (releases_left (view (taken_of tasks).set) r d) r
+releases_kept tasks r d = pick (is_some (taken_of tasks)) (releases_left (view (set_taken tasks)) r d) r
 
 unfoldable pub deadlines_kept : List ℕ → List ℤ → List ℤ → List ℤ
-deadlines_kept tasks r d = pick (taken_of tasks).fits (deadlines_left (view (taken_of tasks).set) r d) d
+deadlines_kept tasks r d = pick (is_some (taken_of tasks)) (deadlines_left (view (set_taken tasks)) r d) d
 
 -- the answer a, with A as what is said of answers: the answer itself, or its number
 pub record AdjustedBy {A : Type 0} (say : Adjusted → A) (tasks : List ℕ) (r d : List ℤ) (a : A) (r' d' : List ℤ) : Type 0 where

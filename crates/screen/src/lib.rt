@@ -3,7 +3,7 @@
 
 ghost use Rattle.std.specs.Prelude.{◌≡◌, get_or};
 ghost use Rattle.kinds.specs.Tasks.{Set, view};
-ghost use Rattle.reader.specs.Files.{taken_of};
+ghost use Rattle.reader.specs.Files.{set_taken};
 ghost use Rattle.network.specs.FoundOf.{found_of};
 ghost use Rattle.screen.specs.Answers.{finding_number, finding_evidence, adjusted_number, adjusted_evidence};
 ghost use Rattle.screen.specs.Findings.{overload_of, finding_of, adjusted_of};
@@ -45,7 +45,7 @@ fn found(set: TaskSet) -> Option<Found>
 
 // The same on tasks as a file's head.
 fn found_head(tasks: &[u8]) -> Option<Found>
-    ensures { result ≡ found_of (view (taken_of tasks.now).set) }
+    ensures { result ≡ found_of (view (set_taken tasks.now)) }
 {
     let mut releases = [0i32; 1];
     let mut deadlines = [0i32; 1];

@@ -119,7 +119,8 @@ module _ (s : Set) (r d : List ℤ) where
   lowest_job : sound s ≡ true → lowest_cycle s < jobs u → LowestJob u (OnCycle u v) (task_of_job u (lowest_cycle s)) (job_of_job u (lowest_cycle s))
   unfolding Finds
   lowest_job e l =
-      let w : Finds s (Some (finding.Cycle (task_of_job u (lowest_cycle s)) (job_of_job u (lowest_cycle s)))) = subst (Finds s) (on_cycle_lem s e l) (finding_true s) in
+      let w : Finds s (Some (finding.Cycle (task_of_job u (lowest_cycle s)) (job_of_job u (lowest_cycle s)))) =
+      subst (Finds s) (on_cycle_lem s e l) (finding_true s) in
       w.lowest
 
   -- ---- the answer, test by test

@@ -1,4 +1,4 @@
 use Rattle.screen.proofs.adjusted_evidence_of.Goals as goal
 
-pub returns-in-Cycle : goal.returns-in-Cycle
-returns-in-Cycle c = rw c.in-Cycle.is c.number_at.ensures
+pub returns-in-Err-Cycle : goal.returns-in-Err-Cycle
+returns-in-Err-Cycle c = rw (c.in-Err-Cycle.is, rw c.in-Err-Cycle.is at c.in-Err-Cycle.field-0-is) c.number_at.ensures

@@ -1,10 +1,10 @@
 use Rattle.screen.proofs.evidence_of.Goals as goal
 
-pub returns-in-Cycle : goal.returns-in-Cycle
-returns-in-Cycle c = rw c.in-Cycle.is c.number_at.ensures
+pub returns-in-Some-Cycle : goal.returns-in-Some-Cycle
+returns-in-Some-Cycle c = rw (c.in-Some-Cycle.is, rw c.in-Some-Cycle.is at c.in-Some-Cycle.field-0-is) c.number_at.ensures
 
-pub returns-in-Overload : goal.returns-in-Overload
-returns-in-Overload c = rw c.in-Overload.is c.number_at-in-Overload.ensures
+pub returns-in-Some-Overload : goal.returns-in-Some-Overload
+returns-in-Some-Overload c = rw (c.in-Some-Overload.is, rw c.in-Some-Overload.is at c.in-Some-Overload.field-0-is) c.number_at-in-Some-Overload.ensures
 
-pub returns-in-TooTight : goal.returns-in-TooTight
-returns-in-TooTight c = rw c.in-TooTight.is c.number_at-in-TooTight.ensures
+pub returns-in-Some-TooTight : goal.returns-in-Some-TooTight
+returns-in-Some-TooTight c = rw (c.in-Some-TooTight.is, rw c.in-Some-TooTight.is at c.in-Some-TooTight.field-0-is) c.number_at-in-Some-TooTight.ensures
