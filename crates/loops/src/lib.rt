@@ -1,5 +1,5 @@
 // The lowest job on a cycle of links, by searches breadth first. Rows of jobs serve as three tables: 1 + the last link from a job, the mark of the search
-// that saw it, and a queue.
+// that saw it, and a queue. They are rows of numbers and no structs, since the clause of `lowest_on_cycle` says what each row holds.
 #![tactic(auto)]
 
 ghost use Rattle.std.specs.Prelude.{◌≡◌, true, false, ◌<◌, length};

@@ -1,4 +1,4 @@
-// The screen of task sets, and adjusted releases and deadlines.
+// The screen of task sets, and adjusted releases and deadlines, whose buffers go on as two, as C lends them.
 #![tactic(auto)]
 
 ghost use Rattle.std.specs.Prelude.{◌≡◌, get_or};
