@@ -11,7 +11,8 @@ use std::fs;
 use std::fs::Files;
 use std::io::{Error, ErrorKind, Read, Result};
 
-// A line of text, as far as it is made. It goes by value from one function that adds to it to the next.
+// A line of text, as far as it is made. It goes by value from one function that adds to it to the next. A buffer and a length, and no String: its clauses say
+// what a line that is full does.
 #[derive(Clone, Copy)]
 pub struct Line {
     text: [u8; 256],

@@ -2,13 +2,12 @@
 use Rattle.std.specs.Prelude.{◌≡◌, refl, List, [], ◌∷◌, ℕ, ◌%◌, ℤ, get_or, length, Result, Ok, Err, MatchResult, IsOkAnd}
 use Rattle.std.proofs.Common.{sym, ap, ◌∙◌}
 use Rattle.vocabulary.specs.First.{from}
-use Rattle.heads.specs.declared.Outcome.{Outcome}
-use Rattle.heads.specs.declared.Outcome.TheVariants as outcome
+use Rattle.heads.specs.Tables.{Outcome}
 use Rattle.numbers.specs.declared.Refusal.{Refusal}
 use Rattle.numbers.specs.declared.Refusal.TheVariants as refusal
 use Rattle.numbers.specs.Answers.{refusal_evidence}
 use Rattle.reader.specs.Answers.{number_of, evidence_of}
-use Rattle.reader.specs.Files.{read_of}
+use Rattle.reader.specs.Files.{outcome_read}
 use Rattle.writer.specs.declared.WriteError.{WriteError}
 use Rattle.writer.specs.Answers as writeAnswers
 use Rattle.writer.specs.Writing.{WriteLeft, write_leaves}
@@ -22,7 +21,6 @@ use Rattle.dispatcher.specs.Refusals.{step_rules, answer_by}
 use Rattle.dispatcher.specs.ForC.{StartForC, start_leaves, StepForC, step_leaves, answer_in, step_for}
 use Rattle.dispatcher.specs.Looks.{look_by, look_from, look_in, look_for, Look, answer_by_look}
 use Rattle.screen.specs.Answers.{Adjusted}
-use Rattle.screen.specs.declared.Adjusted.{Adjusted}
 use Rattle.screen.specs.Answers.{adjusted_number}
 use Rattle.screen.specs.Heads.{AdjustedBy}
 
@@ -32,10 +30,10 @@ evidence_in xs which = get_or xs which 0 % 4294967296
 
 -- ---- flute_read
 unfoldable pub read_number : List ℕ → ℕ
-read_number file = number_of (read_of file).outcome
+read_number file = number_of (outcome_read file)
 
 unfoldable pub read_evidence : List ℕ → ℕ → ℕ
-read_evidence file which = evidence_in (evidence_of (read_of file).outcome) which
+read_evidence file which = evidence_in (evidence_of (outcome_read file)) which
 
 -- ---- flute_start: the verdict's number, and what is left in the state's bytes
 pub record StartLeft (b : StartForC) (r : ℕ) (state : List ℕ) : Type 0 where
@@ -119,15 +117,15 @@ one_place (refusal.BadSlot p) = refl
 one_place (refusal.LeftOver p) = refl
 
 pub one_evidence : (o : Outcome) → evidence_of o ≡ get_or (evidence_of o) 0 0 ∷ []
-one_evidence (outcome.At p) = refl
-one_evidence (outcome.Refused r) = one_place r
+one_evidence (Ok p) = refl
+one_evidence (Err r) = one_place r
 
 -- ---- from the calls to the definitions
-pub read_number_lem : (file : List ℕ) {o : Outcome} {n : ℕ} → o ≡ (read_of file).outcome → n ≡ number_of o → n ≡ read_number file
+pub read_number_lem : (file : List ℕ) {o : Outcome} {n : ℕ} → o ≡ outcome_read file → n ≡ number_of o → n ≡ read_number file
 unfolding read_number
 read_number_lem file e q = q ∙ ap number_of e
 
-pub read_evidence_lem : (file : List ℕ) (which : ℕ) {o : Outcome} {p x r : ℕ} → o ≡ (read_of file).outcome → p ≡ get_or (evidence_of o) 0 0
+pub read_evidence_lem : (file : List ℕ) (which : ℕ) {o : Outcome} {p x r : ℕ} → o ≡ outcome_read file → p ≡ get_or (evidence_of o) 0 0
     → x ≡ get_or (p ∷ []) which 0 → r ≡ x % 4294967296 → r ≡ read_evidence file which
 unfolding read_evidence
 read_evidence_lem file which {o} e q x r =

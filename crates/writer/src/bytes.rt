@@ -1,4 +1,5 @@
-// A file's bytes, part after part. Each part is written from a place on, and answers the place after it.
+// A file's bytes, part after part. Each part is written from a place on, and answers the place after it: buffer and place are two parameters, since a struct
+// that lends the buffer on would say no more.
 ghost use Rattle.std.specs.Prelude.{◌≡◌, true, [], ◌∷◌, ℕ, ◌+◌, ◌*◌, ◌<◌, ◌≤◌, length, get_or};
 ghost use Rattle.vocabulary.specs.Table.{join};
 ghost use Rattle.kinds.specs.Build.{set_in};

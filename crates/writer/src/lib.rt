@@ -89,7 +89,7 @@ pub fn written_head(tasks: &[u8], plan: &[u8], room: usize) -> Result<usize, Wri
     answer(SetView { counts, tables }, plan, room)
 }
 
-// The number of an answer: 0, 10, 11, 12 or 18.
+// The number of an answer: 0, 10, 11, 12 or 18. A call of its own and no From: pages and calls for C name it.
 pub fn number_of(w: Result<usize, WriteError>) -> u32
     ensures { result ≡ number_of w }
 {
