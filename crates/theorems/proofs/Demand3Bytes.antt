@@ -48,7 +48,8 @@ module _ (tasks slots : List ℕ) (fitting : is_some (taken_of tasks) ≡ true) 
   taken_in_bytes state report out clear same w =
       rw (same, shown)
     where
-      shown : answer_by (is_some (taken_of tasks)) (lengths_fit set.processors (cycle set.tasks) (length slots) (length out) && eqb (length (bytes_of state)) 21)
+      shown : answer_by (is_some (taken_of tasks))
+          (lengths_fit set.processors (cycle set.tasks) (length slots) (length out) && eqb (length (bytes_of state)) 21)
           (unclear (bytes_of state) || impossible set.tasks (cycle set.tasks) state) (tick_of set slots state report)
           ≡ Ok tt
       shown =

@@ -1,6 +1,7 @@
 -- The three demands on one page, over the bytes that an executive has. A call's outcome is a definition of its input: `start_for`, `step_for`, `judged_of`,
--- `screened_of`, `write_head_for`; of the call for adjusted times, `AdjustedBy` says it of number and buffers. That the calls have these outcomes is what their contracts say
--- (crates/flute/src), for every input and without a fault. What is supposed stands before the last arrow, by its name; the proof is the line below.
+-- `screened_of`, `write_head_for`; of the call for adjusted times, `AdjustedBy` says it of number and buffers. That the calls have these outcomes is what
+-- their contracts say (crates/flute/src), for every input and without a fault. What is supposed stands before the last arrow, by its name; the proof is the
+-- line below.
 use Rattle.std.specs.Prelude.{◌≡◌, Bool, true, false, List, ◌↔◌, ℕ, ◌≤◌, ◌<◌, ℤ, length, Result, Ok, Err, is_some}
 use Rattle.std.proofs.Math.Path.{refl}
 use Rattle.std.proofs.Common.{ap, ◌∙◌}

@@ -1,5 +1,6 @@
 -- What a plan file is: a byte string is read exactly when it is the bytes of a sound set and of a plan for it; and the two round trips of reader and writer.
-use Rattle.std.specs.Prelude.{◌≡◌, refl, Bool, true, false, List, ◌++◌, ◌⊎◌, ◌↔◌, ℕ, ◌+◌, ◌*◌, ◌<◌, ◌≤◌, length, get_or, take, drop, eqb, Some, None, is_some, Ok, Err}
+use Rattle.std.specs.Prelude.{◌≡◌, refl, Bool, true, false, List, ◌++◌, ◌⊎◌, ◌↔◌, ℕ, ◌+◌, ◌*◌, ◌<◌, ◌≤◌, length, get_or, take, drop, eqb, Some, None, is_some}
+use Rattle.std.specs.Prelude.{Ok, Err}
 use Rattle.std.proofs.Common.{sym, ap, ◌∙◌, subst, inl, inr, arith, ext_get_or, take_at, drop_at, le-ltb, eqb-true}
 use Rattle.vocabulary.specs.Test.{pick}
 use Rattle.vocabulary.proofs.Test.{clash, lt_or_le}

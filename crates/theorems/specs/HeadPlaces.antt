@@ -20,7 +20,7 @@ use Rattle.numbers.specs.declared.Refusal.{Refusal}
 use Rattle.numbers.specs.declared.Refusal.TheVariants as refusal
 use Rattle.numbers.specs.Numbers.{got_at, and_then}
 use Rattle.heads.specs.declared.Progress.{Progress}
-use Rattle.heads.specs.Tables.{TaskRead, Two, Heading, pattern, in_order}
+use Rattle.heads.specs.Tables.{TaskRead, Two, Heading, pattern}
 use Rattle.heads.specs.Tables.{times_from, task_from, TasksRead, on_task, tasks_from, two_at, PairsRead, on_two, pairs_from, count_from, heading_at}
 use Rattle.heads.specs.Tables.{PatternTables, with_pattern, progress, PatternsRead, on_heading, on_pairs, pattern_from, on_pattern, patterns_from}
 use Rattle.heads.specs.Heads.{OpeningRead, opening, opening_of, middle_from, on_opening, on_tasks, on_middle, on_patterns, head_from}
@@ -99,7 +99,8 @@ task₁ t s p = and_then (got_at s p (runnings t) (refusal.OutOfLimits p)) λ c 
 module _ (s : List ℕ) (u : Task) (q : ℕ) where
   with₃ : (t c o p : ℕ) → t ≤ 6000 → task₃ t c o s p ≡ Ok (u, q) → ReadTo s p q 2 (λ x. task₃ t c o x p)
   with₃ t c o p l =
-      then_place s p (deadlines t c) (refusal.OutOfLimits p) (λ x d p₄. Ok (task_of t c o d, p₄)) (u, q) q 2 0 (λ v p₄ g w. (g.read.two (omega (arith, g.in_range.1)), end_place s p₄ q _ (ok_second w)))
+      then_place s p (deadlines t c) (refusal.OutOfLimits p) (λ x d p₄. Ok (task_of t c o d, p₄)) (u, q) q 2 0
+      (λ v p₄ g w. (g.read.two (omega (arith, g.in_range.1)), end_place s p₄ q _ (ok_second w)))
 
   with₂ : (t c p : ℕ) → t ≤ 6000 → task₂ t c s p ≡ Ok (u, q) → ReadTo s p q 4 (λ x. task₂ t c x p)
   with₂ t c p l =
@@ -192,7 +193,8 @@ module _ (s : List ℕ) (at : ℕ) (low : Key) (n used x y c q : ℕ) (l : n ≤
   heading_place : heading_at s at low n used ≡ Ok (pattern x y c, q) → ReadTo s at q 4 (λ t. heading_at t at low n used)
   unfolding heading_at
   heading_place =
-      then_place s at (first_range low n) (refusal.Disordered at) (λ t a. heading₁ low n used a t) (pattern x y c, q) q 1 3 (λ v p₁ g w. (g.read.one (omega (arith, g.in_range.1)), to₁ v p₁ w))
+      then_place s at (first_range low n) (refusal.Disordered at) (λ t a. heading₁ low n used a t) (pattern x y c, q) q 1 3
+      (λ v p₁ g w. (g.read.one (omega (arith, g.in_range.1)), to₁ v p₁ w))
 
 -- ---- patterns, with all their pairs
 patterns_place : (s : List ℕ) (e : ℕ) (t : Tasks) (h : ℕ) → t.count ≤ 64 → (k i : ℕ) (done : Progress) (u : PatternTables) (q l : ℕ)

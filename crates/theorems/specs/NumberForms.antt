@@ -15,7 +15,7 @@ use Rattle.kinds.specs.declared.Cycle.{Cycle}
 use Rattle.kinds.specs.Limits.{Range, range, holds, task_counts, processor_counts, pattern_counts, periods, runnings, offsets, deadlines, most_pairs}
 use Rattle.kinds.specs.Editions.{editions}
 use Rattle.kinds.specs.Limits.{first_range, second_range}
-use Rattle.kinds.specs.Tasks.{Tasks, task_of}
+use Rattle.kinds.specs.Tasks.{Tasks}
 use Rattle.kinds.specs.Cycle.{cycle_fits}
 use Rattle.numbers.specs.declared.Refusal.{Refusal}
 use Rattle.numbers.specs.declared.Refusal.TheVariants as refusal
@@ -23,7 +23,7 @@ use Rattle.numbers.specs.declared.NumberFault.TheVariants as numberFault
 use Rattle.numbers.specs.Numbers.{Number, number_at, number_bytes, held, got_at, and_then}
 use Rattle.numbers.specs.Forms.{Bytes, FormAt, read_form}
 use Rattle.heads.specs.declared.Opening.{Opening}
-use Rattle.heads.specs.Tables.{pattern, times_from, task_from, in_order, two_at, count_from, heading_at}
+use Rattle.heads.specs.Tables.{pattern, times_from, task_from, two_at, count_from, heading_at}
 use Rattle.heads.specs.Heads.{opening, opening_of, middle_from}
 use Rattle.numbers.specs.Results.{err_ok, ok_first, ok_second, ok3_first, ok3_second, ok3_third}
 use Rattle.heads.proofs.ReadInRange.{went}

@@ -24,7 +24,7 @@ use Rattle.numbers.specs.Numbers.{number_bytes, held, got_at, and_then}
 use Rattle.numbers.specs.Forms.{form_read}
 use Rattle.writer.specs.Format.{numbers_of, bytes_in}
 use Rattle.writer.specs.FormatLaws.{bytes_none, bytes_more}
-use Rattle.heads.specs.Tables.{pattern, times_from, task_from, in_order, two_at, count_from, heading_at}
+use Rattle.heads.specs.Tables.{pattern, times_from, task_from, two_at, count_from, heading_at}
 use Rattle.heads.specs.Heads.{opening, opening_of}
 
 -- ---- one number that is in its range
@@ -141,7 +141,8 @@ module _ (file : List ℕ) (at : ℕ) (low : Key) (n used x y c : ℕ) where
 
 -- ---- what stands before the tasks
 module _ (file : List ℕ) (e n m : ℕ) where
-  pub opening_read : opening_fits e n m ≡ true → PartAt file 0 (bytes_in (e ∷ n ∷ m ∷ [])) → opening_of file ≡ Ok (opening e n m, length (bytes_in (e ∷ n ∷ m ∷ [])))
+  pub opening_read : opening_fits e n m ≡ true → PartAt file 0 (bytes_in (e ∷ n ∷ m ∷ []))
+      → opening_of file ≡ Ok (opening e n m, length (bytes_in (e ∷ n ∷ m ∷ [])))
   unfolding opening_fits opening_of and_then
   opening_read h p =
       let w = both {a = holds editions e} h in

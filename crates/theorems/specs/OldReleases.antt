@@ -107,7 +107,8 @@ pub same_tight_sets : (s : Set) → (finding_number (finding_of s) ≡ 15) ↔ (
 same_tight_sets s = (λ h. sym (same_findings s) ∙ h, λ h. same_findings s ∙ h)
 
 -- ==== The same for C: the number for bytes that are a head and nothing more is that of their set under the old rule, and 10 for any others.
-pub same_screened : (tasks : List ℕ) → finding_number (screened_of tasks) ≡ pick (is_some (taken_of tasks)) (finding_number (old_finding (view (set_taken tasks)))) 10
+pub same_screened : (tasks : List ℕ)
+    → finding_number (screened_of tasks) ≡ pick (is_some (taken_of tasks)) (finding_number (old_finding (view (set_taken tasks)))) 10
 unfolding screened_of
 same_screened tasks = go (is_some (taken_of tasks))
   where
@@ -133,8 +134,9 @@ pressed =
 
 -- ==== Here the old rule named task 1 and the new one names task 0.
 pub another_job : (old_finding pressed ≡ Some (finding.TooTight 1 0)) × (finding_of pressed ≡ Some (finding.TooTight 0 0))
-unfolding finding_by screen_rules first_of least all total table join gather lcm lcm_of reach loops longest.most longest.entry longest.rounds
-    soonest.fewest soonest.due soonest.soonest holds rises pairs_in cycle jobs_of jobs_before jobs cycle_fits release due number_of_job task_of_job job_of_job common
-    link_from link_to repeats links_of links inner edition_of spans_of links_in attributes_fit task_fits pair_key pair_fits pattern_key heading_fits pattern_fits opening_fits
-    sound pair_links pattern_links cycle_links link_starts link_ends network own_release own_due own_running release_by adjusted_deadline on_cycle load room tight_by
+unfolding finding_by screen_rules first_of least all total table join gather lcm lcm_of reach loops longest.most longest.entry longest.rounds soonest.fewest
+    soonest.due soonest.soonest holds rises pairs_in cycle jobs_of jobs_before jobs cycle_fits release due number_of_job task_of_job job_of_job common
+    link_from link_to repeats links_of links inner edition_of spans_of links_in attributes_fit task_fits pair_key pair_fits pattern_key heading_fits
+    pattern_fits opening_fits sound pair_links pattern_links cycle_links link_starts link_ends network own_release own_due own_running release_by
+    adjusted_deadline on_cycle load room tight_by
 another_job = (refl, refl)

@@ -121,8 +121,9 @@ module _ (file : List ℕ) (v : Patterns) (k start : ℕ) where
 
   module _ (la lb : ℕ) (ha : la ≤ 6000) (hb : lb ≤ 12000) (room : pairs_before v k + pair_count v k ≤ 1024)
       (fit : all (pair_fits v.pairs (pairs_before v k) la lb) (pair_count v k) ≡ true) (part : PartAt file start (join (pair_bytes v k) (pair_count v k))) where
-    pub pairs_read_lem : (j q x at : ℕ) (low : Key) (t : List ℕ) → q + j ≡ pair_count v k → x ≡ pairs_before v k + q → at ≡ start + length (join (pair_bytes v k) q)
-        → low ≡ pair_key v.pairs (pairs_before v k) q → Copied v.pairs 2048 (2 * x) t → PairsCome (pairs_from file j at low la lb x t)
+    pub pairs_read_lem : (j q x at : ℕ) (low : Key) (t : List ℕ) → q + j ≡ pair_count v k → x ≡ pairs_before v k + q
+        → at ≡ start + length (join (pair_bytes v k) q) → low ≡ pair_key v.pairs (pairs_before v k) q → Copied v.pairs 2048 (2 * x) t
+        → PairsCome (pairs_from file j at low la lb x t)
     unfolding pairs_from on_two pair_fits
     pairs_read_lem zero q x at low t e f p g c =
         let z : q ≡ pair_count v k = omega arith in
