@@ -16,7 +16,8 @@ use Rattle.kinds.specs.Links.{common, link_from, link_to, repeats, links_of, lin
 use Rattle.kinds.specs.Sound.{attributes_fit, task_fits, pair_key, pair_fits, pattern_key, heading_fits, pattern_fits, opening_fits, sound}
 use Rattle.kinds.specs.Plans.{slot, shows, shown, awake, runs, ticks, first_tick, last_tick}
 use Rattle.numbers.specs.Numbers.{number_at, held, got_at, and_then}
-use Rattle.heads.specs.Tables.{times_from, task_from, on_task, tasks_from, two_at, on_two, pairs_from, count_from, heading_at, on_heading, on_pairs, pattern_from, on_pattern, patterns_from}
+use Rattle.heads.specs.Tables.{times_from, task_from, on_task, tasks_from, two_at, on_two, pairs_from, count_from, heading_at, on_heading, on_pairs}
+use Rattle.heads.specs.Tables.{pattern_from, on_pattern, patterns_from}
 use Rattle.heads.specs.Heads.{opening_of, middle_from, on_opening, on_tasks, on_middle, on_patterns, head_from}
 use Rattle.reader.specs.Files.{take_head, taken_of}
 use Rattle.slots.specs.High.{high}
@@ -192,13 +193,14 @@ dispatcher_cases =
 
 -- ==== The dispatcher's definitions answer each of them so.
 pub dispatcher_cases_lem : Answered dispatcher_cases
-unfolding dispatcher_cases state fresh state_bytes other small_set two_head late_head next_head most_head most_slots long_set long_slots full_set full_slots small small_head
-    small_slots reply task_numbers raw_headings raw_pairs lent_set silence report_after least greatest all first_of count total table has pack lcm lcm_of holds rises
-    pairs_in cycle jobs_of jobs_before jobs cycle_fits release common link_from link_to repeats links_of links edition_of spans_of links_in attributes_fit task_fits pair_key
-    pair_fits pattern_key heading_fits pattern_fits opening_fits sound slot shows shown awake runs ticks first_tick last_tick number_at held got_at and_then times_from task_from on_task tasks_from
-    two_at on_two pairs_from count_from heading_at on_heading on_pairs pattern_from on_pattern patterns_from opening_of middle_from on_opening on_tasks on_middle on_patterns head_from
-    take_head taken_of high twin mated clashes strays strayed miscounts miscounted against bars broken breaks broken_pair broken_pattern high_at twice_at
-    outside_at wrong_at broken_at plan_rules rules verdict_of releases heard done_at done_of asleep byte_of row_of stands_at in_row ran_of after_of step_of on_verdict
-    started_of impossible overreports high_slot is_high high_place step_rules answer_by if_shown lengths_fit answer_of stepped_of left_of bytes number bytes_of
-    unclear state_of written_of first_bytes start_rules start_verdict start_for answer_in step_for state_at shown_at
+unfolding dispatcher_cases state fresh state_bytes other small_set two_head late_head next_head most_head most_slots long_set long_slots full_set full_slots
+    small small_head small_slots reply task_numbers raw_headings raw_pairs lent_set silence report_after least greatest all first_of count total table has
+    pack lcm lcm_of holds rises pairs_in cycle jobs_of jobs_before jobs cycle_fits release common link_from link_to repeats links_of links edition_of spans_of
+    links_in attributes_fit task_fits pair_key pair_fits pattern_key heading_fits pattern_fits opening_fits sound slot shows shown awake runs ticks first_tick
+    last_tick number_at held got_at and_then times_from task_from on_task tasks_from two_at on_two pairs_from count_from heading_at on_heading on_pairs
+    pattern_from on_pattern patterns_from opening_of middle_from on_opening on_tasks on_middle on_patterns head_from take_head taken_of high twin mated
+    clashes strays strayed miscounts miscounted against bars broken breaks broken_pair broken_pattern high_at twice_at outside_at wrong_at broken_at
+    plan_rules rules verdict_of releases heard done_at done_of asleep byte_of row_of stands_at in_row ran_of after_of step_of on_verdict started_of impossible
+    overreports high_slot is_high high_place step_rules answer_by if_shown lengths_fit answer_of stepped_of left_of bytes number bytes_of unclear state_of
+    written_of first_bytes start_rules start_verdict start_for answer_in step_for state_at shown_at
 dispatcher_cases_lem = refl

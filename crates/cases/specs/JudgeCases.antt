@@ -15,7 +15,8 @@ use Rattle.kinds.specs.Links.{common, link_from, link_to, repeats, links_of, lin
 use Rattle.kinds.specs.Sound.{attributes_fit, task_fits, pair_key, pair_fits, pattern_key, heading_fits, pattern_fits, opening_fits, sound}
 use Rattle.kinds.specs.Plans.{slot, shows, shown, awake, runs, ticks, first_tick, last_tick}
 use Rattle.numbers.specs.Numbers.{number_at, held, got_at, and_then}
-use Rattle.heads.specs.Tables.{times_from, task_from, on_task, tasks_from, two_at, on_two, pairs_from, count_from, heading_at, on_heading, on_pairs, pattern_from, on_pattern, patterns_from}
+use Rattle.heads.specs.Tables.{times_from, task_from, on_task, tasks_from, two_at, on_two, pairs_from, count_from, heading_at, on_heading, on_pairs}
+use Rattle.heads.specs.Tables.{pattern_from, on_pattern, patterns_from}
 use Rattle.heads.specs.Heads.{opening_of, middle_from, on_opening, on_tasks, on_middle, on_patterns, head_from}
 use Rattle.reader.specs.Files.{take_head, taken_of}
 use Rattle.slots.specs.High.{high}
@@ -166,12 +167,12 @@ judge_cases =
 
 -- ==== The judge's definition answers each of them so.
 pub judge_cases_lem : Answered judge_cases
-unfolding judge_cases on_some full late_by over_end both_over_end twice_late most most_slots linked linked_slots two_then_one roundabout late_next
-    small small_head small_slots reply task_numbers raw_headings
-    raw_pairs lent_set least greatest all first_of count total table gather lcm lcm_of holds rises pairs_in cycle jobs_of jobs_before jobs cycle_fits release common
-    link_from link_to repeats links_of links edition_of spans_of links_in attributes_fit task_fits pair_key pair_fits pattern_key heading_fits pattern_fits opening_fits sound
-    slot shows shown awake runs ticks first_tick last_tick number_at held got_at and_then times_from task_from on_task tasks_from two_at on_two pairs_from count_from heading_at on_heading
-    on_pairs pattern_from on_pattern patterns_from opening_of middle_from on_opening on_tasks on_middle on_patterns head_from take_head taken_of high twin mated clashes strays strayed
+unfolding judge_cases on_some full late_by over_end both_over_end twice_late most most_slots linked linked_slots two_then_one roundabout late_next small
+    small_head small_slots reply task_numbers raw_headings raw_pairs lent_set least greatest all first_of count total table gather lcm lcm_of holds rises
+    pairs_in cycle jobs_of jobs_before jobs cycle_fits release common link_from link_to repeats links_of links edition_of spans_of links_in attributes_fit
+    task_fits pair_key pair_fits pattern_key heading_fits pattern_fits opening_fits sound slot shows shown awake runs ticks first_tick last_tick number_at
+    held got_at and_then times_from task_from on_task tasks_from two_at on_two pairs_from count_from heading_at on_heading on_pairs pattern_from on_pattern
+    patterns_from opening_of middle_from on_opening on_tasks on_middle on_patterns head_from take_head taken_of high twin mated clashes strays strayed
     miscounts miscounted against bars broken breaks broken_pair broken_pattern high_at twice_at outside_at wrong_at broken_at plan_rules rules verdict_of
     judged_of
 judge_cases_lem = refl

@@ -2,7 +2,7 @@
 use Rattle.std.specs.Prelude.{List, [], ◌∷◌, ℕ, ℤ, pos, set, drop}
 use Rattle.std.proofs.Math.IntN.{sub_ℕ}
 use Rattle.kinds.specs.Tasks.{Set, view}
-use Rattle.reader.specs.Files.{read_of}
+use Rattle.reader.specs.Files.{set_read}
 use Rattle.cases.specs.Questions.{Row, Answered, is, refused_by, says, times, rows, at, gets, reply, number_reply}
 use Rattle.cases.specs.Questions.{task_numbers, heading_numbers, pair_numbers, set_of, silence, report_after}
 use Rattle.cases.specs.Questions as ask
@@ -19,7 +19,7 @@ file_a =
 
 -- the set that the reader hands out, and the slots behind its place
 unfoldable pub set_a : Set
-set_a = view (read_of file_a).set
+set_a = view (set_read file_a)
 
 unfoldable pub slots_a : List ℕ
 slots_a = drop 21 file_a
@@ -45,7 +45,7 @@ set_h = set_of 1 ((4, 1, 0, 2) ∷ []) []
 
 -- A with task 2's C = 3
 unfoldable pub set_i : Set
-set_i = view (read_of (set file_a 12 3)).set
+set_i = view (set_read (set file_a 12 3))
 
 unfoldable pub set_j : Set
 set_j = set_of 3 ((2, 2, 0, 2) ∷ (2, 2, 0, 2) ∷ (2, 2, 0, 2) ∷ []) ((0, 1, 0, 0) ∷ (1, 2, 0, 0) ∷ [])

@@ -7,10 +7,9 @@ use Rattle.kinds.specs.Cycle.{jobs}
 use Rattle.kinds.specs.Jobs.{release}
 use Rattle.kinds.specs.Links.{links}
 use Rattle.kinds.specs.Plans.{plan_of, runs_past, ticks, first_tick, last_tick}
-use Rattle.reader.specs.Files.{read_of}
+use Rattle.reader.specs.Files.{outcome_read}
 use Rattle.numbers.specs.Answers.{numeral_number, numeral_evidence}
-use Rattle.numbers.specs.declared.Number.{Number}
-use Rattle.numbers.specs.Numbers.{number_at}
+use Rattle.numbers.specs.Numbers.{Number, number_at}
 use Rattle.reader.specs.Answers as readerAnswers
 use Rattle.writer.specs.declared.WriteError.{WriteError}
 use Rattle.writer.specs.Writing.{write_for, write_head_for}
@@ -106,7 +105,7 @@ step_said a = stepAnswers.number_of a ∷ stepAnswers.evidence_of a
 
 unfoldable pub reply : Question → Reply
 reply (length_of file) = is (length file)
-reply (reading file) = let o = (read_of file).outcome in says (readerAnswers.number_of o ∷ readerAnswers.evidence_of o)
+reply (reading file) = let o = outcome_read file in says (readerAnswers.number_of o ∷ readerAnswers.evidence_of o)
 reply (number s) = number_reply s
 reply (judging s slots) = says (verdict_said (verdict_of s slots))
 reply (screening s) = says (finding_said (finding_of s))

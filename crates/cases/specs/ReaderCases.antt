@@ -9,7 +9,8 @@ use Rattle.kinds.specs.Editions.{edition_of}
 use Rattle.kinds.specs.Cycle.{cycle, jobs_of, jobs_before, jobs, cycle_fits}
 use Rattle.kinds.specs.Links.{spans_of, links_in}
 use Rattle.numbers.specs.Numbers.{number_at, held, got_at, and_then}
-use Rattle.heads.specs.Tables.{times_from, task_from, on_task, tasks_from, two_at, on_two, pairs_from, count_from, heading_at, on_heading, on_pairs, pattern_from, on_pattern, patterns_from}
+use Rattle.heads.specs.Tables.{times_from, task_from, on_task, tasks_from, two_at, on_two, pairs_from, count_from, heading_at, on_heading, on_pairs}
+use Rattle.heads.specs.Tables.{pattern_from, on_pattern, patterns_from}
 use Rattle.heads.specs.Heads.{opening_of, middle_from, on_opening, on_tasks, on_middle, on_patterns, head_from}
 use Rattle.slots.specs.High.{high}
 use Rattle.reader.specs.Files.{slots_from, on_slots, on_head, read_of}
@@ -168,7 +169,7 @@ reader_cases =
 -- ==== The reader's definition answers each of them so.
 pub reader_cases_lem : Answered reader_cases
 unfolding reader_cases small patterned coprime from from_seven to_seven one_pair eight among_seven reply task_numbers least all total table lcm lcm_of holds
-    rises cycle jobs_of jobs_before jobs cycle_fits edition_of spans_of links_in number_at held got_at and_then times_from task_from on_task tasks_from
-    two_at on_two pairs_from count_from
-    heading_at on_heading on_pairs pattern_from on_pattern patterns_from opening_of middle_from on_opening on_tasks on_middle on_patterns head_from high slots_from on_slots on_head read_of
+    rises cycle jobs_of jobs_before jobs cycle_fits edition_of spans_of links_in number_at held got_at and_then times_from task_from on_task tasks_from two_at
+    on_two pairs_from count_from heading_at on_heading on_pairs pattern_from on_pattern patterns_from opening_of middle_from on_opening on_tasks on_middle
+    on_patterns head_from high slots_from on_slots on_head read_of
 reader_cases_lem = refl

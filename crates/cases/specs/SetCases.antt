@@ -18,7 +18,8 @@ use Rattle.kinds.specs.Jobs.{release, due, number_of_job, task_of_job, job_of_jo
 use Rattle.kinds.specs.Links.{common, link_from, link_to, repeats, links_of, links, inner, spans_of, links_in}
 use Rattle.kinds.specs.Sound.{attributes_fit, task_fits, pair_key, pair_fits, pattern_key, heading_fits, pattern_fits, opening_fits, sound}
 use Rattle.numbers.specs.Numbers.{number_at, held, got_at, and_then}
-use Rattle.heads.specs.Tables.{times_from, task_from, on_task, tasks_from, two_at, on_two, pairs_from, count_from, heading_at, on_heading, on_pairs, pattern_from, on_pattern, patterns_from}
+use Rattle.heads.specs.Tables.{times_from, task_from, on_task, tasks_from, two_at, on_two, pairs_from, count_from, heading_at, on_heading, on_pairs}
+use Rattle.heads.specs.Tables.{pattern_from, on_pattern, patterns_from}
 use Rattle.heads.specs.Heads.{opening_of, middle_from, on_opening, on_tasks, on_middle, on_patterns, head_from}
 use Rattle.reader.specs.Files.{take_head, taken_of}
 use Rattle.judge.specs.Judgement.{rules, verdict_of}
@@ -280,13 +281,12 @@ set_cases =
 -- ==== The definitions answer each of them so.
 pub set_cases_lem : Answered set_cases
 unfolding set_cases opened tasks_on one_task patterned paired paired_in seven seven_in many_patterns many_pairs chain in_line both_ways both_ways_in into_next
-    long_way_back three_linked repeated repeated_back full_load pos_all
-    blank small small_head from_seven to_seven reply task_numbers raw_headings raw_pairs lent_set least all first_of total table join gather lcm lcm_of reach
-    loops longest.most longest.entry longest.rounds soonest.fewest soonest.due soonest.soonest holds rises pairs_in cycle jobs_of jobs_before jobs
-    cycle_fits release due number_of_job task_of_job job_of_job common link_from link_to repeats links_of links inner edition_of spans_of links_in attributes_fit task_fits
-    pair_key pair_fits pattern_key heading_fits pattern_fits opening_fits sound number_at held got_at and_then times_from task_from on_task tasks_from two_at on_two pairs_from
-    count_from heading_at on_heading on_pairs pattern_from on_pattern patterns_from opening_of middle_from on_opening on_tasks on_middle on_patterns head_from take_head taken_of rules
-    verdict_of pair_links pattern_links cycle_links link_starts link_ends network own_release own_due own_running release_by
-    adjusted_deadline on_cycle load room tight_by screen_rules finding_by adjust_rules adjusted_of releases_left deadlines_left screened_of adjusted_head
-    releases_kept deadlines_kept
+    long_way_back three_linked repeated repeated_back full_load pos_all blank small small_head from_seven to_seven reply task_numbers raw_headings raw_pairs
+    lent_set least all first_of total table join gather lcm lcm_of reach loops longest.most longest.entry longest.rounds soonest.fewest soonest.due
+    soonest.soonest holds rises pairs_in cycle jobs_of jobs_before jobs cycle_fits release due number_of_job task_of_job job_of_job common link_from link_to
+    repeats links_of links inner edition_of spans_of links_in attributes_fit task_fits pair_key pair_fits pattern_key heading_fits pattern_fits opening_fits
+    sound number_at held got_at and_then times_from task_from on_task tasks_from two_at on_two pairs_from count_from heading_at on_heading on_pairs
+    pattern_from on_pattern patterns_from opening_of middle_from on_opening on_tasks on_middle on_patterns head_from take_head taken_of rules verdict_of
+    pair_links pattern_links cycle_links link_starts link_ends network own_release own_due own_running release_by adjusted_deadline on_cycle load room
+    tight_by screen_rules finding_by adjust_rules adjusted_of releases_left deadlines_left screened_of adjusted_head releases_kept deadlines_kept
 set_cases_lem = refl

@@ -11,7 +11,8 @@ use std::fs;
 use std::fs::Files;
 use std::io::{Error, ErrorKind, Read, Result};
 
-// A line of text, as far as it is made. It goes by value from one function that adds to it to the next.
+// A line of text, as far as it is made. It goes by value from one function that adds to it to the next. A buffer and a length, and no String: its clauses say
+// what a line that is full does.
 #[derive(Clone, Copy)]
 pub struct Line {
     text: [u8; 256],
@@ -132,6 +133,13 @@ pub fn save_named(
     }
 }
 
+// How many bytes of a text count, at most all.
+fn within(n: usize, text: &[u8]) -> usize
+    ensures { IsPrefixLen result text.now }
+{
+    n.min(text.len())
+}
+
 // A number without its sign.
 fn size_of(x: i32) -> u64
     ensures { result ≡ size_of x }
@@ -180,7 +188,7 @@ impl Line {
     pub fn put_first(self, words: &[u8], n: usize) -> Line
         ensures { Continues self result }
     {
-        let k = n.min(words.len());
+        let k = within(n, words);
         self.put(&words[..k])
     }
 

@@ -302,7 +302,7 @@ pub fn step_head(
     Ok(())
 }
 
-// The number of a step's answer: 0, 10, 11, 30, 31 or 12.
+// The number of a step's answer: 0, 10, 11, 30, 31 or 12. A call of its own and no From: pages and calls for C name it.
 pub fn number_of(answer: Result<(), StepError>) -> u32
     ensures { result ≡ number_of answer }
 {

@@ -60,5 +60,8 @@ fn write_anew(
 }
 
 fn main(rt: HostRuntime) -> Result<()> {
-    wording::with_plan(&rt, |file, _, set| write_anew(&rt, file, set, place::slots_of(file)))
+    wording::with_plan(
+        &rt,
+        |file, _, set| write_anew(&rt, file, set, place::slots_of(file)),
+    )
 }

@@ -10,5 +10,8 @@ fn judge_and_print(rt: &impl Print, set: TaskSet, plan: &[u8]) -> Result<()> {
 }
 
 fn main(rt: HostRuntime) -> Result<()> {
-    wording::with_plan(&rt, |file, _, set| judge_and_print(&rt, set, place::slots_of(file)))
+    wording::with_plan(
+        &rt,
+        |file, _, set| judge_and_print(&rt, set, place::slots_of(file)),
+    )
 }

@@ -146,5 +146,8 @@ fn judge_and_play<R: Files + Env + Print + Eprint + Alloc>(
 }
 
 fn main(rt: HostRuntime) -> Result<()> {
-    wording::with_plan(&rt, |file, _, set| judge_and_play(&rt, set, place::slots_of(file)))
+    wording::with_plan(
+        &rt,
+        |file, _, set| judge_and_play(&rt, set, place::slots_of(file)),
+    )
 }

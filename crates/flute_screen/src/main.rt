@@ -30,7 +30,9 @@ fn put_times_by(
     releases: &mut [i32],
     deadlines: &mut [i32],
 ) -> Line {
-    screen::adjust(set, releases, deadlines);
+    if screen::adjust(set, releases, deadlines).is_err() {
+        return line;
+    }
     let (Some(release), Some(deadline)) = (releases.get(x), deadlines.get(x)) else {
         return line;
     };

@@ -98,5 +98,8 @@ fn show(rt: &impl Print, place: usize, set: TaskSet, plan: &[u8]) -> Result<()> 
 }
 
 fn main(rt: HostRuntime) -> Result<()> {
-    wording::with_plan(&rt, |file, place, set| show(&rt, place, set, place::slots_of(file)))
+    wording::with_plan(
+        &rt,
+        |file, place, set| show(&rt, place, set, place::slots_of(file)),
+    )
 }

@@ -68,7 +68,7 @@ fn read_task(file: &[u8], at: usize) -> Result<(Task, usize), Refusal>
     Ok((task, next))
 }
 
-// A task, a heading or a pair, into its table.
+// A task, a heading or a pair, into its table. The three are not one: each table has its own numbers.
 fn put_task(attributes: &mut Attributes, i: usize, t: Task)
     requires { i < 64 }
     ensures { attributes.new ≡ put_task attributes.old i t }
@@ -275,7 +275,8 @@ fn read_middle(
     Ok((cycle, k, p))
 }
 
-// Pattern i with its pairs, into the two tables that are lent for patterns, after what is done.
+// Pattern i with its pairs, into the two tables that are lent for patterns, after what is done. The attributes are only read meanwhile, so the three tables
+// are not lent as one.
 fn read_pattern(
     file: &[u8],
     done: Progress,

@@ -161,7 +161,7 @@ pub fn judge_head(tasks: &[u8], plan: &[u8]) -> Verdict
     judge_tables(SetView { counts, tables }, plan)
 }
 
-// The number of a verdict: 0, 10, 11, 12, or 20 to 23.
+// The number of a verdict: 0, 10, 11, 12, or 20 to 23. A call of its own and no From: pages and calls for C name it.
 pub fn number_of(v: Verdict) -> u32
     ensures { result ≡ number_of v }
 {

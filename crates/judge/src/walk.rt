@@ -1,4 +1,5 @@
-// One walk over the slots: rules 20 and 21, and what each job gets.
+// One walk over the slots: rules 20 and 21, and what each job gets. A row of the table is three numbers, as vocabulary Tally counts them: how many ticks, the
+// first and the last.
 ghost use Rattle.std.specs.Prelude.{◌≡◌, ◌*◌, ◌/◌, ◌≤◌, ◌<◌, length};
 ghost use Rattle.vocabulary.specs.Tally.{count_at, Noted, Fresh};
 ghost use Rattle.kinds.specs.Cycle.{jobs};

@@ -22,7 +22,7 @@ pub type Headings = [u32; 192];
 // and the two numbers of pair after pair, through all patterns.
 pub type Pairs = [u16; 2048];
 
-// The tables of a set, which are lent as one.
+// The tables of a set, which are lent as one. They are arrays of numbers with counts beside them, and no Vec: the archive uses no heap.
 #[derive(Clone, Copy)]
 pub struct Tables {
     pub attributes: Attributes,
@@ -335,8 +335,8 @@ pub fn is_within(v: u32, low: u32, limit: u32) -> bool
     low <= v && v < limit
 }
 
-// The least common multiple by Euclid's method. How often the greatest common divisor goes into a is counted along, which saves a division at the end:
-// x times t and y times s make a in every turn. Where b divides a, a is the answer, and no quotient is waited for.
+// The least common multiple by Euclid's method, whose loop goes over no range. How often the greatest common divisor goes into a is counted along, which saves
+// a division at the end: x times t and y times s make a in every turn. Where b divides a, a is the answer, and no quotient is waited for.
 fn multiple_of(a: u32, b: u32) -> u32
     requires { (0 < a) × (a ≤ 6000) × (0 < b) × (b ≤ 6000) }
     ensures { result ≡ lcm a b }
@@ -488,7 +488,7 @@ fn attributes_fit(t: Task) -> bool
     is_within(t.deadline, t.running, t.period + 1)
 }
 
-// Task i, from the attributes; all 0 past the last place.
+// Task i, from the attributes; all 0 past the last place, here and for patterns and pairs. No Option: the calls cannot fail, and their clauses say so.
 pub fn task_at(attributes: &Attributes, i: usize) -> Task
     ensures { result ≡ task_in attributes.now i }
 {

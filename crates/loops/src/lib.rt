@@ -1,5 +1,5 @@
 // The lowest job on a cycle of links, by searches breadth first. Rows of jobs serve as three tables: 1 + the last link from a job, the mark of the search
-// that saw it, and a queue.
+// that saw it, and a queue. They are rows of numbers and no structs, since the clause of `lowest_on_cycle` says what each row holds.
 #![tactic(auto)]
 
 ghost use Rattle.std.specs.Prelude.{◌≡◌, true, false, ◌<◌, length};
@@ -82,7 +82,7 @@ fn visit_job(
     Some(tail + 1)
 }
 
-// The same for each link from job v.
+// The same for each link from job v. The links of a job are a list that ends with 0, and 1 + a link leads on; a `for` has no number of turns to go by.
 fn walk(
     links: &[[u16; 2]],
     next: &[u16],
@@ -115,7 +115,7 @@ fn begin_search(x: usize, jobs: &mut [[u32; 3]])
     jobs[0] = [q[0], q[1], x as u32];
 }
 
-// Whether the search that has begun comes back to job x.
+// Whether the search that has begun comes back to job x. The queue grows while it is walked, so that no `for` knows its end.
 fn probe(links: &[[u16; 2]], next: &[u16], x: usize, jobs: &mut [[u32; 3]]) -> bool
     requires { ProbeAsked links.now next.now x jobs.old }
     ensures { Probed links.now x jobs.old jobs.new result }

@@ -57,8 +57,7 @@ fn hop(jobs: &mut [[u32; 3]], a: usize, b: usize) -> bool
 }
 
 // Which of n links is the next after k, from the first on or from the last back.
-// A place and not two loops, one over the links and one over them in reverse: a loop each way is no plainer, since
-// it would say the body and what it keeps twice.
+// A place and not two loops, one over the links and one over them in reverse: that is no plainer, since it would say the body and what it keeps twice.
 fn turned(back: bool, n: usize, k: usize) -> usize
     requires { k < n }
     ensures { result ≡ turn back n k }

@@ -1,4 +1,5 @@
-// Numbers in a file: one to three bytes, seven bits each, in their shortest form only.
+// Numbers in a file: one to three bytes, seven bits each, in their shortest form only. Here and in heads a file and a place are two parameters; the struct of
+// both is `place::Place`, whose thin functions stand over these.
 #![tactic(auto)]
 
 ghost use Rattle.std.specs.Prelude.{◌≡◌, ◌+◌, ◌*◌, ◌<◌, length, get_or};

@@ -167,7 +167,7 @@ fn refusal_place(r: Refusal) -> usize
     }
 }
 
-// The number of what the reader answers: 0, or 1 to 9.
+// The number of what the reader answers: 0, or 1 to 9. A call of its own and no From: pages and calls for C name it.
 pub fn number_of(o: Result<usize, Refusal>) -> u32
     ensures { result ≡ number_of o }
 {

@@ -1,4 +1,4 @@
-// The screen of task sets, and adjusted releases and deadlines.
+// The screen of task sets, and adjusted releases and deadlines, whose buffers go on as two, as C lends them.
 #![tactic(auto)]
 
 ghost use Rattle.std.specs.Prelude.{◌≡◌, get_or};
@@ -34,22 +34,18 @@ pub enum Unadjusted {
     Cycle(u32, u32),
 }
 
-// What is found of a set, where nothing is to be written.
+// What is found of a set, where nothing is to be written: buffers without a place are none that a set's times fit.
 fn found(set: TaskSet) -> Option<Found>
     ensures { result ≡ found_of (view set) }
 {
-    let mut releases = [0i32; 1];
-    let mut deadlines = [0i32; 1];
-    network::solve(set, &mut releases, &mut deadlines)
+    network::solve(set, &mut [], &mut [])
 }
 
 // The same on tasks as a file's head.
 fn found_head(tasks: &[u8]) -> Option<Found>
     ensures { result ≡ found_of (view (set_taken tasks.now)) }
 {
-    let mut releases = [0i32; 1];
-    let mut deadlines = [0i32; 1];
-    network::solve_head(tasks, &mut releases, &mut deadlines)
+    network::solve_head(tasks, &mut [], &mut [])
 }
 
 // 14, where the jobs need more than there is.
@@ -144,7 +140,7 @@ pub fn adjust_head(
     adjusted_of(f, releases.len(), deadlines.len())
 }
 
-// The number of a finding: 10, 13, 14 or 15; 0 for none.
+// The number of a finding: 10, 13, 14 or 15; 0 for none. A call of its own and no From: pages and calls for C name it.
 pub fn number_of(f: Option<Finding>) -> u32
     ensures { result ≡ finding_number f }
 {

@@ -1,19 +1,20 @@
 -- Laws of the definitions in specs/Demand2Bytes.antt.
-use Rattle.std.specs.Prelude.{◌≡◌, refl, true, List, ◌↔◌, ℕ}
+use Rattle.std.specs.Prelude.{◌≡◌, refl, true, List, ◌↔◌, ℕ, Option, Some, None, is_some, unwrap_or}
 use Rattle.std.proofs.Common.{sym, ap, ◌∙◌, subst, arith}
-use Rattle.vocabulary.proofs.Test.{took}
+use Rattle.vocabulary.proofs.Test.{clash}
+use Rattle.kinds.specs.declared.TaskSet.{TaskSet}
+use Rattle.kinds.specs.Build.{no_tasks}
 use Rattle.kinds.specs.Tasks.{Set, view}
 use Rattle.kinds.specs.Plans.{plan_of}
 use Rattle.kinds.specs.Valid.{Valid}
-use Rattle.reader.specs.declared.Taking.{Taking}
 use Rattle.reader.specs.Answers as readAnswers
-use Rattle.reader.specs.Files.{read_of, taken_of}
+use Rattle.reader.specs.Files.{outcome_read, taken_of}
 use Rattle.reader.proofs.ReadLaws.{taken_sound}
 use Rattle.judge.specs.declared.Verdict.{Verdict}
 use Rattle.judge.specs.declared.Verdict.TheVariants as verdict
 use Rattle.judge.specs.Answers.{number_of}
 use Rattle.judge.specs.Judgement.{verdict_of}
-use Rattle.judge.specs.Heads.{judged_of}
+use Rattle.judge.specs.Heads.{on_taking, judged_of}
 use Rattle.screen.specs.Answers.{finding_number}
 use Rattle.screen.specs.Heads.{screened_of}
 use Rattle.theorems.specs.FileParts.{tasks_in, plan_in, set_of_file, read_parts}
@@ -33,13 +34,21 @@ zero_verdict (verdict.WrongCount i k c a b) e = absurd (omega arith)
 zero_verdict (verdict.BrokenLink k q n) e = absurd (omega arith)
 
 -- the verdict is that of the set, where there is one
-pub judged_set : (tasks plan : List ℕ) → (taken_of tasks).fits ≡ true → judged_of tasks plan ≡ verdict_of (set_of_tasks tasks) plan
+pub judged_set : (tasks plan : List ℕ) → is_some (taken_of tasks) ≡ true → judged_of tasks plan ≡ verdict_of (set_of_tasks tasks) plan
 unfolding judged_of
-judged_set tasks plan e = rw e
+judged_set tasks plan e = by (taken_of tasks) e
+  where
+    by : (t : Option TaskSet) → is_some t ≡ true → on_taking t plan ≡ verdict_of (view (unwrap_or t (no_tasks 0 0))) plan
+    by (Some s) e = refl
+    by None e = clash e refl
 
-judged_fits : (tasks plan : List ℕ) → judged_of tasks plan ≡ verdict.Accepted → (taken_of tasks).fits ≡ true
+judged_fits : (tasks plan : List ℕ) → judged_of tasks plan ≡ verdict.Accepted → is_some (taken_of tasks) ≡ true
 unfolding judged_of
-judged_fits tasks plan e = (took (taken_of tasks).fits _ _ _ e (λ q. omega (arith, ap number_of q))).0
+judged_fits tasks plan e = by (taken_of tasks) e
+  where
+    by : (t : Option TaskSet) → on_taking t plan ≡ verdict.Accepted → is_some t ≡ true
+    by (Some s) e = refl
+    by None e = absurd (omega (arith, ap number_of e))
 
 -- ==== The judge answers 0 to C exactly if the tasks are a head and nothing more and the plan is right for ever.
 pub judged_zero : (tasks plan : List ℕ) → (number_of (judged_of tasks plan) ≡ 0) ↔ Right tasks plan
@@ -62,12 +71,12 @@ screened_final tasks h plan e =
     finding_is_final (set_of_tasks tasks) (λ q. h (rw (f, q))) plan (sym (judged_set tasks plan f) ∙ a)
 
 -- ==== The same for a file that is read: the judge answers 0 for its two parts exactly if the plan is right for ever on the set that was read.
-pub file_zero : (file : List ℕ) → readAnswers.number_of (read_of file).outcome ≡ 0
+pub file_zero : (file : List ℕ) → readAnswers.number_of (outcome_read file) ≡ 0
     → (number_of (judged_of (tasks_in file) (plan_in file)) ≡ 0) ↔ Valid (set_of_file file) (plan_of (set_of_file file) (plan_in file))
 file_zero file e =
     let p = read_parts file e in
-    let s : set_of_tasks (tasks_in file) ≡ set_of_file file = ap (λ (t : Taking). view t.set) p.tasks in
-    let f : (taken_of (tasks_in file)).fits ≡ true = ap (λ (t : Taking). t.fits) p.tasks in (
+    let s : set_of_tasks (tasks_in file) ≡ set_of_file file = ap (λ (t : Option TaskSet). view (unwrap_or t (no_tasks 0 0))) p.tasks in
+    let f : is_some (taken_of (tasks_in file)) ≡ true = ap is_some p.tasks in (
       λ z. subst (λ (u : Set). Valid u (plan_of u (plan_in file))) s ((judged_zero (tasks_in file) (plan_in file)).0 z).valid,
       λ v.
           ap number_of (judged_set (tasks_in file) (plan_in file) f

@@ -1,5 +1,5 @@
 -- Demand 3 for C: starting and stepping on bytes.
-use Rattle.std.specs.Prelude.{◌≡◌, true, false, ◌&&◌, ◌||◌, not, List, ℕ, suc, length, Ok}
+use Rattle.std.specs.Prelude.{◌≡◌, true, false, ◌&&◌, ◌||◌, not, List, ℕ, suc, length, Ok, is_some}
 use Rattle.std.proofs.Common.{sym, ap, ◌∙◌, arith}
 use Rattle.std.proofs.Math.Dec.{eqb}
 use borrow.Author.Tests.{eq-eqb, eqb-true, not-false}
@@ -8,7 +8,7 @@ use Rattle.vocabulary.proofs.Test.{missed}
 use Rattle.vocabulary.specs.First.{first_of}
 use Rattle.kinds.specs.Tasks.{Set, view}
 use Rattle.kinds.specs.Cycle.{cycle}
-use Rattle.reader.specs.Files.{taken_of}
+use Rattle.reader.specs.Files.{taken_of, set_taken}
 use Rattle.judge.specs.declared.Verdict.TheVariants as verdict
 use Rattle.judge.specs.Answers as judgeAnswers
 use Rattle.judge.specs.Judgement.{verdict_of}
@@ -29,9 +29,9 @@ use Rattle.theorems.proofs.Demand3Plans.{allowed_at, step_at}
 use Rattle.theorems.proofs.Demand3.{bytes_keep}
 
 -- ==== The bytes of tasks that are a head and nothing more stand for a set, and C's run on them is that set's run, to which the theorems of demand 3 apply.
-module _ (tasks slots : List ℕ) (fitting : (taken_of tasks).fits ≡ true) where
+module _ (tasks slots : List ℕ) (fitting : is_some (taken_of tasks) ≡ true) where
   abbrev pub set : Set
-  set = view (taken_of tasks).set
+  set = view (set_taken tasks)
 
   -- Starting on an accepted plan leaves the bytes of the first state.
   pub starts_in_bytes : verdict_of set slots ≡ verdict.Accepted → (b : List ℕ) → length b ≡ 21
@@ -48,7 +48,8 @@ module _ (tasks slots : List ℕ) (fitting : (taken_of tasks).fits ≡ true) whe
   taken_in_bytes state report out clear same w =
       rw (same, shown)
     where
-      shown : answer_by (taken_of tasks).fits (lengths_fit set.processors (cycle set.tasks) (length slots) (length out) && eqb (length (bytes_of state)) 21)
+      shown : answer_by (is_some (taken_of tasks))
+          (lengths_fit set.processors (cycle set.tasks) (length slots) (length out) && eqb (length (bytes_of state)) 21)
           (unclear (bytes_of state) || impossible set.tasks (cycle set.tasks) state) (tick_of set slots state report)
           ≡ Ok tt
       shown =
@@ -85,17 +86,17 @@ module _ (tasks slots : List ℕ) (fitting : (taken_of tasks).fits ≡ true) whe
 
 -- A start for C that answers 0 was on tasks that are taken, a state of 21 bytes and an accepted plan.
 pub started_in_bytes : (tasks slots b : List ℕ) → judgeAnswers.number_of (start_for tasks slots b).verdict ≡ 0
-    → ((taken_of tasks).fits ≡ true) × (length b ≡ 21) × (verdict_of (view (taken_of tasks).set) slots ≡ verdict.Accepted)
+    → (is_some (taken_of tasks) ≡ true) × (length b ≡ 21) × (verdict_of (view (set_taken tasks)) slots ≡ verdict.Accepted)
 unfolding start_for start_verdict start_rules verdict_of first_of
 started_in_bytes tasks slots b e =
-    by (missed (not (taken_of tasks).fits) _ _ _ (zero_verdict (start_for tasks slots b).verdict e) (λ q. omega (arith, ap judgeAnswers.number_of q)))
+    by (missed (not (is_some (taken_of tasks))) _ _ _ (zero_verdict (start_for tasks slots b).verdict e) (λ q. omega (arith, ap judgeAnswers.number_of q)))
   where
-    by : (not (taken_of tasks).fits ≡ false)
-        × (pick (not (eqb (length b) 21)) verdict.WrongLength (verdict_of (view (taken_of tasks).set) slots) ≡ verdict.Accepted)
-        → ((taken_of tasks).fits ≡ true) × (length b ≡ 21) × (verdict_of (view (taken_of tasks).set) slots ≡ verdict.Accepted)
+    by : (not (is_some (taken_of tasks)) ≡ false)
+        × (pick (not (eqb (length b) 21)) verdict.WrongLength (verdict_of (view (set_taken tasks)) slots) ≡ verdict.Accepted)
+        → (is_some (taken_of tasks) ≡ true) × (length b ≡ 21) × (verdict_of (view (set_taken tasks)) slots ≡ verdict.Accepted)
     by w =
         let z = missed (not (eqb (length b) 21)) _ _ _ w.1 (λ q. omega (arith, ap judgeAnswers.number_of q)) in
-        (not-false (taken_of tasks).fits w.0, eqb-true (length b) 21 (not-false (eqb (length b) 21) z.0), z.1)
+        (not-false (is_some (taken_of tasks)) w.0, eqb-true (length b) 21 (not-false (eqb (length b) 21) z.0), z.1)
 
 -- A step that is refused, on any bytes, leaves the state's bytes and the output as they are.
 module _ (tasks slots : List ℕ) (report : ℕ) (state out : List ℕ) where

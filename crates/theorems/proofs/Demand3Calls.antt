@@ -175,7 +175,8 @@ module _ (s : Set) (slots : List ℕ) (fits : Fits s slots) (reports : ℕ → �
 
   -- and one with the report of step n is that step
   step_is : (n : ℕ) (c : Call) → reports n ≡ c.report → is_right s c ≡ true
-      → ((step_calls s slots).next (state_at y reports n) c ≡ state_at y reports (suc n)) × ((step_calls s slots).row (state_at y reports n) c ≡ shown_at y reports n)
+      → ((step_calls s slots).next (state_at y reports n) c ≡ state_at y reports (suc n))
+      × ((step_calls s slots).row (state_at y reports n) c ≡ shown_at y reports n)
   step_is n c e r =
       let w = step_at s slots fits reports n c.output (rw e (right_allowed n c r)) in
       (ap (λ (x : Stepped). x.state) (rw e at w.0), rw e at w.1)
@@ -206,7 +207,8 @@ module _ (s : Set) (slots : List ℕ) (fits : Fits s slots) (cs : List Call) whe
   calls_run =
       let n : ℕ = length (right_calls s cs) in
       let a : 0 + n ≡ n = omega arith in
-      let b : ◌≡◌ {A = ℕ → List ℕ} (λ k. shown_at z told (0 + k)) (shown_at z told) = fun_ext (λ k. ap (shown_at z told) (let g : 0 + k ≡ k = omega arith in g)) in
+      let b : ◌≡◌ {A = ℕ → List ℕ} (λ k. shown_at z told (0 + k)) (shown_at z told) =
+      fun_ext (λ k. ap (shown_at z told) (let g : 0 + k ≡ k = omega arith in g)) in
       from_start.played
       ∙ ap₂ (λ (f : ℕ → List ℕ) (x : ℕ). record { rows = table f n; state = state_at z told x }) b a
 

@@ -1,5 +1,5 @@
 -- Laws of the definitions in specs/Demand3ForC.antt.
-use Rattle.std.specs.Prelude.{◌≡◌, true, false, List, ℕ, suc, ◌+◌, ◌^◌, ◌≤◌, ◌<◌, length}
+use Rattle.std.specs.Prelude.{◌≡◌, true, false, List, ℕ, suc, ◌+◌, ◌^◌, ◌≤◌, ◌<◌, length, is_some}
 use Rattle.std.proofs.Math.Path.{ap, fun_ext}
 use Rattle.std.proofs.Common.{ap₂, ◌∙◌}
 use native.Mathlib.Omega.{arith}
@@ -40,7 +40,7 @@ refused_leaves tasks slots b c e =
     (ap (λ (x : StepForC). x.state) w, ap (λ (x : StepForC). x.out) w)
 
 -- ---- from the bytes of a run's states on
-module _ (tasks slots : List ℕ) (fitting : (taken_of tasks).fits ≡ true) (fits : Fits (set_in tasks) slots) (reports : ℕ → ℕ) where
+module _ (tasks slots : List ℕ) (fitting : is_some (taken_of tasks) ≡ true) (fits : Fits (set_in tasks) slots) (reports : ℕ → ℕ) where
   abbrev s : Set
   s = set_in tasks
 
@@ -54,7 +54,7 @@ module _ (tasks slots : List ℕ) (fitting : (taken_of tasks).fits ≡ true) (fi
   taken_right : (n : ℕ) (c : Call) → (steps_for_c tasks slots).takes (bytes_at n) c ≡ true → is_right s c ≡ true
   unfolding is_taken is_right step_for answer_in
   taken_right n c e =
-      let w = taken_kept (taken_of tasks).fits (lengths_for_c s slots (bytes_at n) (length c.output)) (impossible_for_c s (bytes_at n))
+      let w = taken_kept (is_some (taken_of tasks)) (lengths_for_c s slots (bytes_at n) (length c.output)) (impossible_for_c s (bytes_at n))
       (tick_in (taken_of tasks) slots c.report (bytes_at n))
       (eqb-true (number_of (answer_in (taken_of tasks) slots c.report (bytes_at n) (length c.output))) 0 e) in
       let l = both {a = lengths_fit s.processors (cycle s.tasks) (length slots) (length c.output)} w.lengths in
@@ -89,7 +89,7 @@ module _ (tasks slots b : List ℕ) (zero : StartsForC tasks slots b) where
   abbrev start : List ℕ
   start = (start_for tasks slots b).state
 
-  begun : ((taken_of tasks).fits ≡ true) × (length b ≡ 21) × (verdict_of (set_in tasks) slots ≡ verdict.Accepted)
+  begun : (is_some (taken_of tasks) ≡ true) × (length b ≡ 21) × (verdict_of (set_in tasks) slots ≡ verdict.Accepted)
   begun = started_in_bytes tasks slots b zero
 
   plan_fits : Fits (set_in tasks) slots

@@ -1,7 +1,8 @@
 -- The three demands on one page, over the bytes that an executive has. A call's outcome is a definition of its input: `start_for`, `step_for`, `judged_of`,
--- `screened_of`, `write_head_for`; of the call for adjusted times, `AdjustedBy` says it of number and buffers. That the calls have these outcomes is what their contracts say
--- (crates/flute/src), for every input and without a fault. What is supposed stands before the last arrow, by its name; the proof is the line below.
-use Rattle.std.specs.Prelude.{◌≡◌, Bool, true, false, List, ◌↔◌, ℕ, ◌≤◌, ◌<◌, ℤ, length, Result, Ok, Err}
+-- `screened_of`, `write_head_for`; of the call for adjusted times, `AdjustedBy` says it of number and buffers. That the calls have these outcomes is what
+-- their contracts say (crates/flute/src), for every input and without a fault. What is supposed stands before the last arrow, by its name; the proof is the
+-- line below.
+use Rattle.std.specs.Prelude.{◌≡◌, Bool, true, false, List, ◌↔◌, ℕ, ◌≤◌, ◌<◌, ℤ, length, Result, Ok, Err, is_some}
 use Rattle.std.proofs.Math.Path.{refl}
 use Rattle.std.proofs.Common.{ap, ◌∙◌}
 use Rattle.vocabulary.specs.Test.{pick}
@@ -9,7 +10,7 @@ use Rattle.vocabulary.specs.Bits.{has}
 use Rattle.kinds.specs.Tasks.{Set, view}
 use Rattle.kinds.specs.Plans.{plan_of}
 use Rattle.kinds.specs.JobTicks.{Gets}
-use Rattle.reader.specs.Files.{taken_of}
+use Rattle.reader.specs.Files.{taken_of, set_taken}
 use Rattle.writer.specs.declared.WriteError.{WriteError}
 use Rattle.writer.specs.Answers as writeAnswers
 use Rattle.writer.specs.Format.{bytes_of}
@@ -68,8 +69,8 @@ pub times_refused : (tasks : List ℕ) (releases deadlines releases' deadlines' 
     → (releases' ≡ releases) × (deadlines' ≡ deadlines)
 unfolding adjusted_head releases_kept deadlines_kept releases_left deadlines_left
 times_refused tasks r d r' d' n outcome refused =
-    let s : Set = view (taken_of tasks).set in
-    let w = by (taken_of tasks).fits (adjusted_of s (length r) (length d)) (releases_of s) (deadlines_of s) (λ z. refused (outcome.answer ∙ z)) in
+    let s : Set = view (set_taken tasks) in
+    let w = by (is_some (taken_of tasks)) (adjusted_of s (length r) (length d)) (releases_of s) (deadlines_of s) (λ z. refused (outcome.answer ∙ z)) in
     (outcome.releases ∙ w.0, outcome.deadlines ∙ w.1)
   where
     unwritten : (a : Adjusted) → (adjusted_number a ≡ 0 → ⊥) → is_written a ≡ false
@@ -86,9 +87,9 @@ times_refused tasks r d r' d' n outcome refused =
 pub write_refused : (tasks plan out : List ℕ) (refused : writeAnswers.number_of (write_head_for tasks plan out).answer ≡ 0 → ⊥)
     → (write_head_for tasks plan out).out ≡ out
 unfolding write_head_for write_for left_in
-write_refused tasks plan out refused = by (written_of (view (taken_of tasks).set) plan (length out)) refused
+write_refused tasks plan out refused = by (written_of (view (set_taken tasks)) plan (length out)) refused
   where
-    by : (w : Result ℕ WriteError) → (writeAnswers.number_of w ≡ 0 → ⊥) → left_in w (bytes_of (view (taken_of tasks).set) plan) out ≡ out
+    by : (w : Result ℕ WriteError) → (writeAnswers.number_of w ≡ 0 → ⊥) → left_in w (bytes_of (view (set_taken tasks)) plan) out ≡ out
     by (Ok n) h = absurd (h refl)
     by (Err e) h = refl
 
@@ -97,7 +98,7 @@ pub judge_accepts_right : (tasks plan : List ℕ) → (judgeAnswers.number_of (j
 judge_accepts_right = judged_zero
 
 -- else it names the first rule that is broken, and where (`Names`).
-pub judge_names_first : (tasks plan : List ℕ) (whole : (taken_of tasks).fits ≡ true) → Names (set_of_tasks tasks) plan (judged_of tasks plan)
+pub judge_names_first : (tasks plan : List ℕ) (whole : is_some (taken_of tasks) ≡ true) → Names (set_of_tasks tasks) plan (judged_of tasks plan)
 judge_names_first tasks plan whole = rw (judged_set tasks plan whole) (first_rule (set_of_tasks tasks) plan)
 
 -- Where it is 22, the evidence shows what the job gets (kinds `JobTicks.Gets`): how many ticks, and the first and the last of them in true time.
@@ -110,7 +111,7 @@ pub start_shows_same : (tasks plan : List ℕ) → start_verdict tasks plan 21 �
 start_shows_same = start_as_judge
 
 -- What the screen finds is so (`Finds`),
-pub screen_is_true : (tasks : List ℕ) (whole : (taken_of tasks).fits ≡ true) → Finds (set_of_tasks tasks) (screened_of tasks)
+pub screen_is_true : (tasks : List ℕ) (whole : is_some (taken_of tasks) ≡ true) → Finds (set_of_tasks tasks) (screened_of tasks)
 unfolding screened_of
 screen_is_true tasks whole = rw whole (finding_true (set_of_tasks tasks))
 

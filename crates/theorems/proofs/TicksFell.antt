@@ -1,9 +1,10 @@
 -- Where the ticks fell: what the five numbers of 22 say of the job that they name, for a set, for C, and in a start.
-use Rattle.std.specs.Prelude.{◌≡◌, refl, Bool, true, false, not, List, ℕ, ◌<◌}
+use Rattle.std.specs.Prelude.{◌≡◌, refl, true, not, List, ℕ, ◌<◌, Option, Some, None, is_some, unwrap_or}
 use Rattle.std.proofs.Common.{ap, subst, arith}
 use Rattle.vocabulary.specs.Test.{pick}
-use Rattle.vocabulary.proofs.Test.{took}
 use Rattle.vocabulary.specs.First.{first_of, earlier, KeptBy}
+use Rattle.kinds.specs.declared.TaskSet.{TaskSet}
+use Rattle.kinds.specs.Build.{no_tasks}
 use Rattle.kinds.specs.Tasks.{Set, view, deadline}
 use Rattle.kinds.specs.Cycle.{jobs_of}
 use Rattle.kinds.specs.Jobs.{release, in_window}
@@ -15,7 +16,7 @@ use Rattle.reader.specs.Files.{taken_of}
 use Rattle.judge.specs.declared.Verdict.TheVariants as verdict
 use Rattle.judge.specs.Answers.{number_of}
 use Rattle.judge.specs.Judgement.{rules, plan_rules, verdict_of}
-use Rattle.judge.specs.Heads.{judged_of}
+use Rattle.judge.specs.Heads.{on_taking, judged_of}
 use Rattle.dispatcher.specs.ForC.{start_rules, start_verdict}
 use Rattle.theorems.specs.Names.{claims, Breach, Names}
 use Rattle.theorems.specs.Foundations.{job_in_cycle}
@@ -59,17 +60,21 @@ module _ (s : Set) (slots : List ℕ) {i k c a b : ℕ} (e : verdict_of s slots 
 pub fell_in_bytes : (tasks slots : List ℕ) {i k c a b : ℕ} → judged_of tasks slots ≡ verdict.WrongCount i k c a b
     → Gets (set_of_tasks tasks).tasks (plan_of (set_of_tasks tasks) slots) i k c a b × (a < 12000) × (b < 12000)
 unfolding judged_of
-fell_in_bytes tasks slots e =
-    let w = (took (taken_of tasks).fits _ _ _ e (λ q. omega (arith, ap number_of q))).1 in
+fell_in_bytes tasks slots {i} {k} {c} {a} {b} e =
+    let w = by (taken_of tasks) e in
     let l = fell_low (set_of_tasks tasks) slots w in
     (ticks_fell (set_of_tasks tasks) slots w, l.0, l.1)
+  where
+    by : (t : Option TaskSet) → on_taking t slots ≡ verdict.WrongCount i k c a b
+        → verdict_of (view (unwrap_or t (no_tasks 0 0))) slots ≡ verdict.WrongCount i k c a b
+    by (Some s) e = e
+    by None e = absurd (omega (arith, ap number_of e))
 
 -- ==== A start with a state of 21 bytes answers as the judge does, with the same evidence.
 pub start_as_judge : (tasks slots : List ℕ) → start_verdict tasks slots 21 ≡ judged_of tasks slots
 unfolding start_verdict start_rules verdict_of judged_of first_of
-start_as_judge tasks slots = by (taken_of tasks).fits
+start_as_judge tasks slots = by (taken_of tasks)
   where
-    by : (fits : Bool) → pick (not fits) verdict.BadSet (verdict_of (view (taken_of tasks).set) slots)
-        ≡ pick fits (verdict_of (view (taken_of tasks).set) slots) verdict.BadSet
-    by true = refl
-    by false = refl
+    by : (t : Option TaskSet) → pick (not (is_some t)) verdict.BadSet (verdict_of (view (unwrap_or t (no_tasks 0 0))) slots) ≡ on_taking t slots
+    by (Some s) = refl
+    by None = refl

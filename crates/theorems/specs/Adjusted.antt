@@ -1,5 +1,5 @@
 -- Adjusted times: what an answer of their call says of the set and of the two buffers.
-use Rattle.std.specs.Prelude.{◌≡◌, Bool, ◌||◌, List, ℕ, ◌<◌, eqb, ltb, ℤ, pos, length, get_or, Some, Ok, Err}
+use Rattle.std.specs.Prelude.{◌≡◌, Bool, ◌||◌, List, ℕ, ◌<◌, eqb, ltb, ℤ, pos, length, get_or, Some, Ok, Err, is_some}
 use Rattle.std.proofs.Math.Path.{refl, subst}
 use Rattle.std.proofs.Common.{sym, ap, ◌∙◌, arith, eqb-true, eq-eqb, ltb-true, ltb-false}
 use Rattle.std.proofs.Math.Bool.{true, false, not}
@@ -11,7 +11,7 @@ use Rattle.kinds.specs.Tasks.{Tasks, Patterns, Set, view}
 use Rattle.kinds.specs.Cycle.{jobs}
 use Rattle.kinds.specs.Jobs.{task_of_job, job_of_job}
 use Rattle.kinds.specs.Sound.{sound}
-use Rattle.reader.specs.Files.{taken_of}
+use Rattle.reader.specs.Files.{taken_of, set_taken}
 use Rattle.network.specs.Times.{AdjustedReleases, AdjustedDeadlines, adjusted_release, adjusted_deadline}
 use Rattle.network.specs.Causes.{lowest_cycle, releases_of, deadlines_of}
 use Rattle.screen.specs.declared.Finding.TheVariants as finding
@@ -119,7 +119,8 @@ module _ (s : Set) (r d : List ℤ) where
   lowest_job : sound s ≡ true → lowest_cycle s < jobs u → LowestJob u (OnCycle u v) (task_of_job u (lowest_cycle s)) (job_of_job u (lowest_cycle s))
   unfolding Finds
   lowest_job e l =
-      let w : Finds s (Some (finding.Cycle (task_of_job u (lowest_cycle s)) (job_of_job u (lowest_cycle s)))) = subst (Finds s) (on_cycle_lem s e l) (finding_true s) in
+      let w : Finds s (Some (finding.Cycle (task_of_job u (lowest_cycle s)) (job_of_job u (lowest_cycle s)))) =
+      subst (Finds s) (on_cycle_lem s e l) (finding_true s) in
       w.lowest
 
   -- ---- the answer, test by test
@@ -168,14 +169,14 @@ adjusted_true s r d a r' d' w = rw (w.answer, w.releases, w.deadlines) (says s r
 
 -- ==== The same for C: bytes that are a head and nothing more are judged by their set; any others get 10, and nothing is written.
 pub adjusted_bytes : (tasks : List ℕ) (r d : List ℤ) (a : Adjusted) (r' d' : List ℤ) → AdjustedBy (λ x. x) tasks r d a r' d'
-    → (taken_of tasks).fits ≡ true → Says (view (taken_of tasks).set) r d a r' d'
+    → is_some (taken_of tasks) ≡ true → Says (view (set_taken tasks)) r d a r' d'
 unfolding adjusted_head releases_kept deadlines_kept
 adjusted_bytes tasks r d a r' d' w e =
-    adjusted_true (view (taken_of tasks).set) r d a r' d'
+    adjusted_true (view (set_taken tasks)) r d a r' d'
     (record { answer = w.answer ∙ rw e; releases = w.releases ∙ rw e; deadlines = w.deadlines ∙ rw e })
 
 pub not_adjusted : (tasks : List ℕ) (r d : List ℤ) (a : Adjusted) (r' d' : List ℤ) → AdjustedBy (λ x. x) tasks r d a r' d'
-    → (taken_of tasks).fits ≡ false → (a ≡ (Err unadjusted.BadSet)) × Unwritten r d r' d'
+    → is_some (taken_of tasks) ≡ false → (a ≡ (Err unadjusted.BadSet)) × Unwritten r d r' d'
 unfolding adjusted_head releases_kept deadlines_kept
 not_adjusted tasks r d a r' d' w e =
     (w.answer ∙ rw e, record { releases = w.releases ∙ rw e; deadlines = w.deadlines ∙ rw e })
@@ -187,13 +188,13 @@ zero_written (Err unadjusted.BadSet) e = absurd (omega arith)
 zero_written (Err unadjusted.WrongLength) e = absurd (omega arith)
 zero_written (Err (unadjusted.Cycle i k)) e = absurd (omega arith)
 
-head_fits : (tasks : List ℕ) (p q : ℕ) → adjusted_head tasks p q ≡ Ok tt → (taken_of tasks).fits ≡ true
+head_fits : (tasks : List ℕ) (p q : ℕ) → adjusted_head tasks p q ≡ Ok tt → is_some (taken_of tasks) ≡ true
 unfolding adjusted_head
-head_fits tasks p q e = (took (taken_of tasks).fits _ _ _ e (λ z. omega (arith, ap adjusted_number z))).0
+head_fits tasks p q e = (took (is_some (taken_of tasks)) _ _ _ e (λ z. omega (arith, ap adjusted_number z))).0
 
 -- ==== Where it is 0, the bytes are a head and nothing more, and the buffers hold its adjusted times.
 pub adjusted_zero : (tasks : List ℕ) (r d r' d' : List ℤ) → AdjustedBy adjusted_number tasks r d 0 r' d'
-    → ((taken_of tasks).fits ≡ true) × WrittenTimes (view (taken_of tasks).set) r d r' d'
+    → (is_some (taken_of tasks) ≡ true) × WrittenTimes (view (set_taken tasks)) r d r' d'
 unfolding Says
 adjusted_zero tasks r d r' d' w =
     let a = zero_written (adjusted_head tasks (length r) (length d)) (sym w.answer) in

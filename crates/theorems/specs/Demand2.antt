@@ -44,7 +44,8 @@ judge_accepts s slots a b c = (
       let k₁₁ : Keeps11 s slots = record { long = b } in
       let k₁₂ = keeps_12 s slots c in
       keeps_accepted s slots
-      (record { sound = a } also k₁₁ also k₁₂ also keeps_20 s f slots k₁₁ k₁₂ w also keeps_21 s f slots k₁₁ k₁₂ w also keeps_22 s f slots w also keeps_23 s f slots w also tt),
+      (record { sound = a } also k₁₁ also k₁₂ also keeps_20 s f slots k₁₁ k₁₂ w also keeps_21 s f slots k₁₁ k₁₂ w also keeps_22 s f slots w
+      also keeps_23 s f slots w also tt),
 )
 
 -- ==== For any task set and any slots: the judge accepts exactly if the set is sound, there are m·H slots, none is above the task count, and the plan's

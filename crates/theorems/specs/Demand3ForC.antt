@@ -2,7 +2,7 @@
 use Rattle.std.specs.Prelude.{◌≡◌, List, ℕ, length}
 use Rattle.vocabulary.specs.Table.{table}
 use Rattle.kinds.specs.Tasks.{Set, view}
-use Rattle.reader.specs.Files.{taken_of}
+use Rattle.reader.specs.Files.{set_taken}
 use Rattle.judge.specs.declared.Verdict.TheVariants as verdict
 use Rattle.judge.specs.Answers as judgeAnswers
 use Rattle.judge.specs.Judgement.{verdict_of}
@@ -14,7 +14,7 @@ use Rattle.theorems.specs.Demand3Rows.{KeepsDemand3}
 
 -- the set that the bytes of tasks stand for
 abbrev pub set_in : List ℕ → Set
-set_in tasks = view (taken_of tasks).set
+set_in tasks = view (set_taken tasks)
 
 -- steps for C as calls: the state is its bytes, and a call is taken where its answer's number is 0
 abbrev pub steps_for_c : List ℕ → List ℕ → Caller (List ℕ) Call

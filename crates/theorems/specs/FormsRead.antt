@@ -1,5 +1,5 @@
 -- The file of a sound set and a plan is read: its head as the set, and then the slots.
-use Rattle.std.specs.Prelude.{◌≡◌, refl, true, List, ◌++◌, ℕ, zero, suc, ◌+◌, ◌-◌, ◌*◌, ◌<◌, ◌≤◌, length, get_or}
+use Rattle.std.specs.Prelude.{◌≡◌, refl, true, List, ◌++◌, ℕ, zero, suc, ◌+◌, ◌-◌, ◌*◌, ◌<◌, ◌≤◌, length, get_or, Ok}
 use Rattle.std.proofs.Common.{sym, ap, subst, ◌∙◌, arith, le-ltb, length-append, get_or-append-add}
 use Rattle.std.proofs.lemmas.Bool.{lt-leb}
 use Rattle.vocabulary.proofs.Total.{total_none}
@@ -19,13 +19,10 @@ use Rattle.kinds.proofs.WhatCounts.{Agree, cycle_agree, jobs_agree}
 use Rattle.slots.specs.High.{high}
 use Rattle.numbers.specs.declared.Refusal.TheVariants as refusal
 use Rattle.numbers.specs.Numbers.{number_bytes, and_then}
-use Rattle.heads.specs.declared.Outcome.TheVariants as outcome
-use Rattle.heads.specs.declared.Middle.TheVariants as middle
-use Rattle.heads.specs.declared.Head.TheVariants as head
 use Rattle.heads.specs.Tables.{TasksRead, tasks_from, no_attributes, no_pattern_tables, progress, PatternsRead}
 use Rattle.heads.specs.Heads.{counts_are, patterns_after, middle_from, HeadRead, head_read, on_opening, on_tasks, on_middle, on_patterns, head_from}
 use Rattle.heads.proofs.HeadLaws.{head_of, set_in, head_sound}
-use Rattle.reader.specs.Files.{slots_from, loaded, on_slots, on_head, read_of}
+use Rattle.reader.specs.Files.{slots_from, loaded, on_slots, on_head, read_of, outcome_read, set_read}
 use Rattle.writer.specs.Format.{head_bytes, bytes_of}
 use Rattle.writer.specs.FormatLaws.{task_bytes, pattern_bytes, opening_bytes, head_bytes_lem}
 use Rattle.theorems.specs.NumbersRead.{got_at_lem, opening_read}
@@ -36,7 +33,7 @@ use Rattle.theorems.specs.PatternsRead.{join_none, Ahead, Come, PatternsCome, pa
 -- a file whose head is read as the set s, which ends where the bytes of s do
 pub record HeadReadAs (s : Set) (file : List ℕ) : Type 0 where
   pub counts : Counts
-  pub is : (head_of file).outcome ≡ head.Of counts (length (head_bytes s))
+  pub is : (head_of file).outcome ≡ Ok (counts, length (head_bytes s))
   pub agree : Agree s (view (set_in (head_of file) counts))
 
 module _ (s : Set) (ok : sound s ≡ true) (file : List ℕ) (part : PartAt file 0 (head_bytes s)) where
@@ -127,7 +124,7 @@ module _ (s : Set) (ok : sound s ≡ true) (file : List ℕ) (part : PartAt file
   cycle_fits_lem = rw (← same_cycle, ← jobs_agree s _ tasks_agree) kept.cycle
 
   -- the pattern count
-  middle_is : middle_from file p₁ read ≡ middle.Of (cycle_is read) v.count p₂
+  middle_is : middle_from file p₁ read ≡ Ok (cycle_is read, v.count, p₂)
   unfolding middle_from and_then
   middle_is =
       let l = holds_at 0 65 v.count kept.patterns in
@@ -167,13 +164,13 @@ module _ (s : Set) (ok : sound s ≡ true) (file : List ℕ) (part : PartAt file
       patterns_read_lem file s.edition u v r.table (cycle read) p₂ found patterns_part v.count 0 (progress p₂ no_key 0 0) no_pattern_tables
       (omega arith) none_yet
 
-  head_is : head_of file ≡ head_read (head.Of counts (length (head_bytes s))) r.table w.tables
+  head_is : head_of file ≡ head_read (Ok (counts, length (head_bytes s))) r.table w.tables
   unfolding head_from on_opening on_tasks on_middle on_patterns
   head_is =
       let begin = opening_read file s.edition u.count s.processors kept.opening (part_front file 0 o ts to_tasks) in
       rw (begin, tasks_are.to, middle_is, patterns_are.to, kept.links, ends)
 
-  read_agree : Agree s (view (set_in (head_read (head.Of counts (length (head_bytes s))) r.table w.tables) counts))
+  read_agree : Agree s (view (set_in (head_read (Ok (counts, length (head_bytes s))) r.table w.tables) counts))
   read_agree =
       record {
         edition = refl;
@@ -199,9 +196,9 @@ head_read_lem s ok file part = read_as_lem s ok file part
 
 -- ---- slots that are all there, none too high, and nothing left over
 slots_read : (file : List ℕ) (n k at : ℕ) → at + k ≡ length file → ((j : ℕ) → at ≤ j → j < length file → get_or file j 0 ≤ n)
-    → slots_from file k at n ≡ outcome.At (length file)
+    → slots_from file k at n ≡ Ok (length file)
 unfolding slots_from high
-slots_read file n zero at e low = rw (le-ltb at (length file) (omega arith)) (ap outcome.At (omega arith))
+slots_read file n zero at e low = rw (le-ltb at (length file) (omega arith)) (ap Ok (omega arith))
 slots_read file n (suc k) at e low =
     rw (lt-leb (length file) at (omega arith), le-ltb n (get_or file at 0) (low at (omega arith) (omega arith)))
     (slots_read file n k (at + 1) (omega arith) (λ j a b. low j (omega arith) b))
@@ -232,17 +229,17 @@ module _ (s : Set) (slots : List ℕ) (ok : sound s ≡ true) (long : length slo
       let at : get_or file j 0 ≡ get_or slots e 0 = rw z at (get_or-append-add (head_bytes s) slots e 0) in
       omega (arith, at, low e (omega (arith, length-append (head_bytes s) slots)), headed.agree.task_count)
 
-  slots_are : slots_from file (f.processors * f.ticks) begin f.tasks ≡ outcome.At (length file)
+  slots_are : slots_from file (f.processors * f.ticks) begin f.tasks ≡ Ok (length file)
   slots_are = slots_read file f.tasks (f.processors * f.ticks) begin (omega (arith, number, length-append (head_bytes s) slots)) slot_low
 
-  read_is : read_of file ≡ loaded (outcome.At begin) (set_in (head_of file) f)
+  read_is : read_of file ≡ Ok (loaded (set_in (head_of file) f) begin)
   unfolding read_of on_head on_slots
   read_is = rw (headed.is, slots_are)
 
 -- ==== The file of a sound set and of as many slots as a cycle has, none above the task count, is read as that set.
 pub file_read_lem : (s : Set) (slots : List ℕ) → sound s ≡ true → length slots ≡ s.processors * cycle s.tasks
     → ((e : ℕ) → e < length slots → get_or slots e 0 ≤ s.tasks.count)
-    → ((read_of (bytes_of s slots)).outcome ≡ outcome.At (length (head_bytes s))) × Agree s (view (read_of (bytes_of s slots)).set)
+    → (outcome_read (bytes_of s slots) ≡ Ok (length (head_bytes s))) × Agree s (view (set_read (bytes_of s slots)))
 unfolding bytes_of
 file_read_lem s slots ok long low =
     let e = read_is s slots ok long low in

@@ -1,5 +1,5 @@
 -- Where a head is read from bytes, the bytes of that head stand there; a file that is read is the bytes of its set and its slots.
-use Rattle.std.specs.Prelude.{◌≡◌, length, drop}
+use Rattle.std.specs.Prelude.{◌≡◌, length, drop, Ok}
 use Rattle.std.proofs.Math.Path.{refl, sym, ap, subst}
 use Rattle.std.proofs.Common.{◌∙◌, length-drop, length-append, get_or-drop}
 use mathlib.Core.List.{List, [], ◌∷◌, ◌++◌}
@@ -19,10 +19,8 @@ use Rattle.kinds.specs.Links.{links_in}
 use Rattle.kinds.specs.RangeLaws.{pairs_none, pairs_more}
 use Rattle.kinds.proofs.Rows.{task_kept, task_there, heading_kept, heading_there, pair_kept, pair_there}
 use Rattle.numbers.specs.Forms.{Bytes}
-use Rattle.heads.specs.declared.Outcome.TheVariants as outcome
-use Rattle.heads.specs.declared.Linked.TheVariants as linked
+use Rattle.numbers.specs.Results.{same_ok, ok_first}
 use Rattle.heads.specs.declared.Progress.{Progress}
-use Rattle.heads.specs.declared.Head.TheVariants as head
 use Rattle.heads.specs.Tables.{no_attributes, TasksRead, tasks_read, tasks_from, PairsRead, pairs_from}
 use Rattle.heads.specs.Tables.{PatternTables, no_pattern_tables, with_pattern, progress, PatternsRead, patterns_read, patterns_from}
 use Rattle.heads.specs.Heads.{HeadRead, set_of, counts_are}
@@ -31,7 +29,7 @@ use Rattle.heads.proofs.ReadKeeps.{pairs_kept, PatternsKept, patterns_kept}
 use Rattle.heads.proofs.ReadIsSound.{tasks_all, patterns_in}
 use Rattle.heads.proofs.Bounds.{heading_bounds, opening_low, middle_low}
 use Rattle.heads.proofs.HeadLaws.{head_of, set_in}
-use Rattle.reader.specs.Files.{read_of}
+use Rattle.reader.specs.Files.{outcome_read, set_read}
 use Rattle.writer.specs.Format.{numbers_of, bytes_in, head_bytes, bytes_of}
 use Rattle.writer.specs.FormatLaws.{task_bytes, pair_bytes, heading_bytes, pattern_bytes, pattern_bytes_lem, head_bytes_lem}
 use Rattle.theorems.specs.FileParts.{headed}
@@ -40,7 +38,7 @@ use Rattle.theorems.specs.NumberForms.{opening_form, task_form, middle_form, hea
 
 -- ---- tasks
 -- what was read stays: later turns write only behind it
-tasks_kept : (s : List ℕ) (k i at : ℕ) (u : List ℕ) (q : ℕ) → (tasks_from s k i at u).outcome ≡ outcome.At q
+tasks_kept : (s : List ℕ) (k i at : ℕ) (u : List ℕ) (q : ℕ) → (tasks_from s k i at u).outcome ≡ Ok q
     → SamePrefix u (tasks_from s k i at u).table (4 * i)
 unfolding tasks_from
 tasks_kept s zero i at u q e = kept_self u (4 * i)
@@ -53,19 +51,18 @@ tasks_kept s (suc k) i at u q e =
 
 -- the bytes of the first i of n tasks stand before place `at`, and k more are read: then those of all n do, where w is the table in the end
 module _ (s : List ℕ) (bytes : Bytes s) (start n : ℕ) (w : List ℕ) (few : n ≤ 64) (long : length w ≡ 256) where
-  tasks_form : (k i at : ℕ) (u : List ℕ) (q : ℕ) → i + k ≡ n → tasks_from s k i at u ≡ tasks_read (outcome.At q) w
+  tasks_form : (k i at : ℕ) (u : List ℕ) (q : ℕ) → i + k ≡ n → tasks_from s k i at u ≡ tasks_read (Ok q) w
       → Fills s start (join (task_bytes (tasks_of n w)) i) at → Fills s start (join (task_bytes (tasks_of n w)) n) q
   unfolding tasks_from
   tasks_form zero i at u q z e so_far =
       let a : i ≡ n = omega arith in
-      let o : outcome.At at ≡ outcome.At q = ap (λ (x : TasksRead). x.outcome) e in
-      let b : at ≡ q = cc o in
+      let b : at ≡ q = same_ok (ap (λ (x : TasksRead). x.outcome) e) in
       rw (a, b) at so_far
   tasks_form (suc k) i at u q z e so_far =
       let f = tasks_went s k i at u q (ap (λ (x : TasksRead). x.outcome) e) in
       let t : Task = f.task in
       let v : List ℕ = put_task u i t in
-      let e' : tasks_from s k (i + 1) f.next v ≡ tasks_read (outcome.At q) w = sym f.rest ∙ e in
+      let e' : tasks_from s k (i + 1) f.next v ≡ tasks_read (Ok q) w = sym f.rest ∙ e in
       let kept : SamePrefix v w (4 * (i + 1)) =
       subst (λ (r : TasksRead). SamePrefix v r.table (4 * (i + 1))) e' (tasks_kept s k (i + 1) f.next v q (ap (λ (r : TasksRead). r.outcome) e')) in
       let is : task_at w i ≡ t = task_there u i t w kept (omega (arith, (task_kept u i t w kept).long)) in
@@ -79,12 +76,12 @@ module _ (s : List ℕ) (bytes : Bytes s) (la lb at₀ start n : ℕ) (v : List 
   abbrev pair_at : ℕ → List ℕ
   pair_at d = bytes_in (first_in v (start + d) ∷ second_in v (start + d) ∷ [])
 
-  pairs_form : (k d j at : ℕ) (low : Key) (u : List ℕ) (q : ℕ) → d + k ≡ n → j ≡ start + d → (pairs_from s k at low la lb j u).outcome ≡ outcome.At q
+  pairs_form : (k d j at : ℕ) (low : Key) (u : List ℕ) (q : ℕ) → d + k ≡ n → j ≡ start + d → (pairs_from s k at low la lb j u).outcome ≡ Ok q
       → SamePrefix (pairs_from s k at low la lb j u).table v (2 * (start + n)) → Fills s at₀ (join pair_at d) at → Fills s at₀ (join pair_at n) q
   unfolding pairs_from
   pairs_form zero d j at low u q z a e kept so_far =
       let b : d ≡ n = omega arith in
-      let c : at ≡ q = cc e in
+      let c : at ≡ q = same_ok e in
       rw (b, c) at so_far
   pairs_form (suc k) d j at low u q z a e kept so_far =
       let w = pairs_went s k at low la lb j u q e in
@@ -92,7 +89,7 @@ module _ (s : List ℕ) (bytes : Bytes s) (la lb at₀ start n : ℕ) (v : List 
       let y : ℕ = w.y in
       let t : List ℕ = put_pair u j x y in
       let r : PairsRead = pairs_from s k w.next (after x y) la lb (j + 1) t in
-      let o : r.outcome ≡ outcome.At q = ap (λ (x : PairsRead). x.outcome) (sym w.rest) ∙ e in
+      let o : r.outcome ≡ Ok q = ap (λ (x : PairsRead). x.outcome) (sym w.rest) ∙ e in
       let g : SamePrefix r.table v (2 * (start + n)) = subst (λ (x : PairsRead). SamePrefix x.table v (2 * (start + n))) w.rest kept in
       let f : SamePrefix t v (2 * (j + 1)) =
       kept_on t r.table v (2 * (j + 1)) (2 * (start + n)) (omega arith) (pairs_kept s k w.next (after x y) la lb (j + 1) t q o) g in
@@ -107,13 +104,12 @@ module _ (s : List ℕ) (bytes : Bytes s) (e h start : ℕ) (t : Tasks) (n : ℕ
   P = patterns_in w n
 
   patterns_form : (k i : ℕ) (done : Progress) (u : PatternTables) (q l : ℕ) → i + k ≡ n → done.used ≡ pairs_in w.headings i
-      → patterns_from s e t h k i done u ≡ patterns_read (linked.At q l) w
+      → patterns_from s e t h k i done u ≡ patterns_read (Ok (q, l)) w
       → Fills s start (join (pattern_bytes P) i) done.at → Fills s start (join (pattern_bytes P) n) q
   unfolding patterns_from
   patterns_form zero i done u q l z before g so_far =
       let a : i ≡ n = omega arith in
-      let o : linked.At done.at done.links ≡ linked.At q l = ap (λ (x : PatternsRead). x.outcome) g in
-      let b : done.at ≡ q = cc o in
+      let b : done.at ≡ q = ok_first (ap (λ (x : PatternsRead). x.outcome) g) in
       rw (a, b) at so_far
   patterns_form (suc k) i done u q l z before g so_far =
       let f = patterns_went s e t h i done u k q l (ap (λ (x : PatternsRead). x.outcome) g) in
@@ -124,7 +120,7 @@ module _ (s : List ℕ) (bytes : Bytes s) (e h start : ℕ) (t : Tasks) (n : ℕ
       let c : ℕ = f.c in
       let v : PatternTables = with_pattern u i x y c f.v in
       let next : Progress = progress f.q (after x y) (used + c) (done.links + links_in c h f.spans.whole) in
-      let g' : patterns_from s e t h k (i + 1) next v ≡ patterns_read (linked.At q l) w = sym (patterns_rest s e t h i done u k f) ∙ g in
+      let g' : patterns_from s e t h k (i + 1) next v ≡ patterns_read (Ok (q, l)) w = sym (patterns_rest s e t h i done u k f) ∙ g in
       let kept : PatternsKept v w (i + 1) (used + c) =
       subst (λ (r : PatternsRead). PatternsKept v r.tables (i + 1) (used + c)) g'
       (patterns_kept s e t h k (i + 1) next v q l (ap (λ (r : PatternsRead). r.outcome) g')) in
@@ -176,7 +172,7 @@ module _ (s : List ℕ) (bytes : Bytes s) (f : Counts) (at : ℕ) where
       (subst (λ (g : Counts). Fills s 0 (head_bytes (view (set_of g w.tasks w.patterns))) at) w.shape (all_form w))
 
 -- ==== Where a head is read from bytes, the bytes of its set stand at the front, and end where the head does.
-pub head_form : (s : List ℕ) → Bytes s → (f : Counts) (at : ℕ) → (head_of s).outcome ≡ head.Of f at
+pub head_form : (s : List ℕ) → Bytes s → (f : Counts) (at : ℕ) → (head_of s).outcome ≡ Ok (f, at)
     → PartAt s 0 (head_bytes (view (set_in (head_of s) f))) × (at ≡ length (head_bytes (view (set_in (head_of s) f))))
 head_form s bytes f at e =
     let w = went_form s bytes f at (head_went s no_attributes no_pattern_tables f at e) in
@@ -194,8 +190,8 @@ part_rest s xs p e f =
         rw z (record { within = omega (arith, f.within, length-drop p s); entry = λ j h. sym (get_or-drop p s j 0) })
 
 -- ==== A file of bytes that is read is the file of its set and of its slots.
-pub file_form : (s : List ℕ) → Bytes s → (p : ℕ) → (read_of s).outcome ≡ outcome.At p
-    → (p ≡ length (head_bytes (view (read_of s).set))) × (s ≡ bytes_of (view (read_of s).set) (drop p s))
+pub file_form : (s : List ℕ) → Bytes s → (p : ℕ) → outcome_read s ≡ Ok p
+    → (p ≡ length (head_bytes (view (set_read s)))) × (s ≡ bytes_of (view (set_read s)) (drop p s))
 unfolding bytes_of
 file_form s bytes p e =
     let w = headed s p e in

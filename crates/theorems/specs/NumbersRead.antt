@@ -1,5 +1,5 @@
 -- The bytes of numbers that stand in a file are read as these numbers: one number, a task, a pair, a pattern's heading and what stands before the tasks.
-use Rattle.std.specs.Prelude.{◌≡◌, true, ℕ, ◌+◌, ◌<◌, ◌≤◌, eqb}
+use Rattle.std.specs.Prelude.{◌≡◌, true, ℕ, ◌+◌, ◌<◌, ◌≤◌, eqb, Ok}
 use Rattle.std.proofs.Common.{◌∙◌, length-append}
 use Rattle.std.proofs.Math.Bool.{not}
 use mathlib.Core.List.{List, [], ◌∷◌}
@@ -20,17 +20,12 @@ use Rattle.kinds.specs.Sound.{attributes_fit, heading_fits, opening_fits}
 use Rattle.kinds.specs.RangeLaws.{holds_yes, holds_at}
 use Rattle.numbers.specs.declared.Refusal.{Refusal}
 use Rattle.numbers.specs.declared.Refusal.TheVariants as refusal
-use Rattle.numbers.specs.declared.Got.TheVariants as got
 use Rattle.numbers.specs.Numbers.{number_bytes, held, got_at, and_then}
 use Rattle.numbers.specs.Forms.{form_read}
 use Rattle.writer.specs.Format.{numbers_of, bytes_in}
 use Rattle.writer.specs.FormatLaws.{bytes_none, bytes_more}
-use Rattle.heads.specs.declared.TaskRead.TheVariants as taskRead
-use Rattle.heads.specs.declared.Two.TheVariants as two
-use Rattle.heads.specs.declared.Heading.TheVariants as heading
-use Rattle.heads.specs.declared.Opening.TheVariants as opening
-use Rattle.heads.specs.Tables.{times_from, task_from, two_at, count_from, heading_at}
-use Rattle.heads.specs.Heads.{opening_of}
+use Rattle.heads.specs.Tables.{pattern, times_from, task_from, two_at, count_from, heading_at}
+use Rattle.heads.specs.Heads.{opening, opening_of}
 
 -- ---- one number that is in its range
 -- the place after the bytes of v
@@ -38,7 +33,7 @@ abbrev pub past : ℕ → ℕ → ℕ
 past at v = at + length (number_bytes v)
 
 pub got_at_lem : (file : List ℕ) (at : ℕ) (r : Range) (fault : Refusal) (v : ℕ) → holds r v ≡ true → v < 2097152 → PartAt file at (number_bytes v)
-    → got_at file at r fault ≡ got.Value v (past at v)
+    → got_at file at r fault ≡ Ok (v, past at v)
 unfolding got_at held
 got_at_lem file at r fault v h l p = rw (form_read file at v l p, h)
 
@@ -80,7 +75,7 @@ module _ (file : List ℕ) (at : ℕ) (t : Task) where
   abbrev D : ℕ
   D = t.deadline
 
-  pub task_read : attributes_fit t ≡ true → PartAt file at (bytes_in (numbers_of t)) → task_from file at ≡ taskRead.Task t (at + length (bytes_in (numbers_of t)))
+  pub task_read : attributes_fit t ≡ true → PartAt file at (bytes_in (numbers_of t)) → task_from file at ≡ Ok (t, at + length (bytes_in (numbers_of t)))
   unfolding attributes_fit task_from times_from and_then
   task_read e p =
       let w = both {a = holds periods T} e in
@@ -106,7 +101,7 @@ module _ (file : List ℕ) (at : ℕ) (t : Task) where
 -- ---- two numbers in order
 module _ (file : List ℕ) (at : ℕ) (low : Key) (la lb x y : ℕ) where
   pub two_read : rises low la lb x y ≡ true → la ≤ 6000 → lb ≤ 12000 → PartAt file at (bytes_in (x ∷ y ∷ []))
-      → two_at file at low la lb ≡ two.Both x y (at + length (bytes_in (x ∷ y ∷ [])))
+      → two_at file at low la lb ≡ Ok (x, y, at + length (bytes_in (x ∷ y ∷ [])))
   unfolding rises two_at and_then
   two_read e ha hb p =
       let w = both {a = holds (first_range low la) x} e in
@@ -122,7 +117,7 @@ module _ (file : List ℕ) (at : ℕ) (low : Key) (la lb x y : ℕ) where
 -- ---- a pattern's heading
 module _ (file : List ℕ) (at : ℕ) (low : Key) (n used x y c : ℕ) where
   pub heading_read : heading_fits n low x y c used ≡ true → n ≤ 64 → PartAt file at (bytes_in (x ∷ y ∷ c ∷ []))
-      → heading_at file at low n used ≡ heading.Of x y c (at + length (bytes_in (x ∷ y ∷ c ∷ [])))
+      → heading_at file at low n used ≡ Ok (pattern x y c, at + length (bytes_in (x ∷ y ∷ c ∷ [])))
   unfolding heading_fits rises heading_at count_from and_then
   heading_read e few p =
       let h = both {a = rises low n n x y} e in
@@ -146,7 +141,8 @@ module _ (file : List ℕ) (at : ℕ) (low : Key) (n used x y c : ℕ) where
 
 -- ---- what stands before the tasks
 module _ (file : List ℕ) (e n m : ℕ) where
-  pub opening_read : opening_fits e n m ≡ true → PartAt file 0 (bytes_in (e ∷ n ∷ m ∷ [])) → opening_of file ≡ opening.Of e n m (length (bytes_in (e ∷ n ∷ m ∷ [])))
+  pub opening_read : opening_fits e n m ≡ true → PartAt file 0 (bytes_in (e ∷ n ∷ m ∷ []))
+      → opening_of file ≡ Ok (opening e n m, length (bytes_in (e ∷ n ∷ m ∷ [])))
   unfolding opening_fits opening_of and_then
   opening_read h p =
       let w = both {a = holds editions e} h in

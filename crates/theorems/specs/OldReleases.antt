@@ -1,5 +1,5 @@
 -- The rule for adjusted releases as it was before request 105, and that the screen's number is the same under both. Nothing else uses the old rule.
-use Rattle.std.specs.Prelude.{◌≡◌, refl, Bool, true, false, List, [], ◌∷◌, ◌↔◌, ℕ, ◌≤◌, ◌<◌, Option, Some}
+use Rattle.std.specs.Prelude.{◌≡◌, refl, Bool, true, false, List, [], ◌∷◌, ◌↔◌, ℕ, ◌≤◌, ◌<◌, Option, Some, is_some}
 use Rattle.std.proofs.Common.{sym, ◌∙◌, arith, ltb-false}
 use Rattle.std.proofs.lemmas.Bool.{not-false}
 use Rattle.vocabulary.specs.Test.{pick}
@@ -20,7 +20,7 @@ use Rattle.kinds.specs.Cycle.{cycle, jobs_of, jobs_before, jobs, cycle_fits}
 use Rattle.kinds.specs.Jobs.{release, due, number_of_job, task_of_job, job_of_job}
 use Rattle.kinds.specs.Links.{common, link_from, link_to, repeats, links_of, links, inner, spans_of, links_in}
 use Rattle.kinds.specs.Sound.{attributes_fit, task_fits, pair_key, pair_fits, pattern_key, heading_fits, pattern_fits, opening_fits, sound}
-use Rattle.reader.specs.Files.{taken_of}
+use Rattle.reader.specs.Files.{taken_of, set_taken}
 use Rattle.network.specs.Network.{pair_links, pattern_links, cycle_links, link_starts, link_ends, network}
 use Rattle.network.specs.Times.{Weight, ReleasesBy, release_by, own_release, own_due, own_running, adjusted_deadline}
 use Rattle.network.specs.Causes.{on_cycle, load, room, tight_by, lowest_cycle, lowest_tight_by, lowest_tight}
@@ -107,13 +107,14 @@ pub same_tight_sets : (s : Set) → (finding_number (finding_of s) ≡ 15) ↔ (
 same_tight_sets s = (λ h. sym (same_findings s) ∙ h, λ h. same_findings s ∙ h)
 
 -- ==== The same for C: the number for bytes that are a head and nothing more is that of their set under the old rule, and 10 for any others.
-pub same_screened : (tasks : List ℕ) → finding_number (screened_of tasks) ≡ pick (taken_of tasks).fits (finding_number (old_finding (view (taken_of tasks).set))) 10
+pub same_screened : (tasks : List ℕ)
+    → finding_number (screened_of tasks) ≡ pick (is_some (taken_of tasks)) (finding_number (old_finding (view (set_taken tasks)))) 10
 unfolding screened_of
-same_screened tasks = go (taken_of tasks).fits
+same_screened tasks = go (is_some (taken_of tasks))
   where
-    go : (b : Bool) → finding_number (pick b (finding_of (view (taken_of tasks).set)) (Some finding.BadSet))
-        ≡ pick b (finding_number (old_finding (view (taken_of tasks).set))) 10
-    go true = same_findings (view (taken_of tasks).set)
+    go : (b : Bool) → finding_number (pick b (finding_of (view (set_taken tasks))) (Some finding.BadSet))
+        ≡ pick b (finding_number (old_finding (view (set_taken tasks)))) 10
+    go true = same_findings (view (set_taken tasks))
     go false = refl
 
 -- ==== The job that 15 names may be another: it is the one of the old rule or an earlier one.
@@ -133,8 +134,9 @@ pressed =
 
 -- ==== Here the old rule named task 1 and the new one names task 0.
 pub another_job : (old_finding pressed ≡ Some (finding.TooTight 1 0)) × (finding_of pressed ≡ Some (finding.TooTight 0 0))
-unfolding finding_by screen_rules first_of least all total table join gather lcm lcm_of reach loops longest.most longest.entry longest.rounds
-    soonest.fewest soonest.due soonest.soonest holds rises pairs_in cycle jobs_of jobs_before jobs cycle_fits release due number_of_job task_of_job job_of_job common
-    link_from link_to repeats links_of links inner edition_of spans_of links_in attributes_fit task_fits pair_key pair_fits pattern_key heading_fits pattern_fits opening_fits
-    sound pair_links pattern_links cycle_links link_starts link_ends network own_release own_due own_running release_by adjusted_deadline on_cycle load room tight_by
+unfolding finding_by screen_rules first_of least all total table join gather lcm lcm_of reach loops longest.most longest.entry longest.rounds soonest.fewest
+    soonest.due soonest.soonest holds rises pairs_in cycle jobs_of jobs_before jobs cycle_fits release due number_of_job task_of_job job_of_job common
+    link_from link_to repeats links_of links inner edition_of spans_of links_in attributes_fit task_fits pair_key pair_fits pattern_key heading_fits
+    pattern_fits opening_fits sound pair_links pattern_links cycle_links link_starts link_ends network own_release own_due own_running release_by
+    adjusted_deadline on_cycle load room tight_by
 another_job = (refl, refl)

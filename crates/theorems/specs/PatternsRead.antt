@@ -1,5 +1,5 @@
 -- The bytes of patterns that fit, each with its pairs, are read into tables that have the entries of the set.
-use Rattle.std.specs.Prelude.{◌≡◌, refl, true, List, ◌++◌, length, get_or}
+use Rattle.std.specs.Prelude.{◌≡◌, refl, true, List, ◌++◌, length, get_or, Ok}
 use Rattle.std.proofs.Math.Path.{sym, ap₂}
 use Rattle.std.proofs.Common.{ap, ◌∙◌, length-append}
 use Prim.Native.Nat.{ℕ, zero, suc, ◌+◌, ◌*◌, ◌<◌, ◌≤◌}
@@ -20,11 +20,8 @@ use Rattle.kinds.specs.Links.{common, first_reach, reach, repeats, links_of, lin
 use Rattle.kinds.specs.RangeLaws.{spans_low}
 use Rattle.kinds.specs.Sound.{pair_key, pair_fits, pattern_key, heading_fits, pattern_fits}
 use Rattle.kinds.proofs.PatternWalk.{HeadingFacts, heading_facts, pattern_key_more, before_more, spans_at, links_at}
-use Rattle.heads.specs.declared.Heading.TheVariants as heading
-use Rattle.heads.specs.declared.Reached.TheVariants as reached
-use Rattle.heads.specs.declared.Linked.TheVariants as linked
 use Rattle.heads.specs.declared.Progress.{Progress}
-use Rattle.heads.specs.Tables.{pairs_from, heading_at, PatternTables, progress, PatternRead, PatternsRead, on_heading, on_pairs, pattern_from}
+use Rattle.heads.specs.Tables.{pattern, pairs_from, heading_at, PatternTables, progress, PatternRead, PatternsRead, on_heading, on_pairs, pattern_from}
 use Rattle.heads.specs.Tables.{on_pattern, patterns_from}
 use Rattle.writer.specs.FormatLaws.{pair_bytes, pattern_bytes, heading_bytes, pattern_bytes_lem}
 use Rattle.theorems.specs.NumbersRead.{heading_read}
@@ -101,11 +98,11 @@ pub record Come (u : Tasks) (v : Patterns) (start k : ℕ) (d : Progress) (t : P
 
 record PatternCome (u : Tasks) (v : Patterns) (start k : ℕ) (r : PatternRead) : Type 0 where
   next : Progress
-  to : r.outcome ≡ reached.To next
+  to : r.outcome ≡ Ok next
   come : Come u v start (k + 1) next r.tables
 
 pub record PatternsCome (u : Tasks) (v : Patterns) (start : ℕ) (r : PatternsRead) : Type 0 where
-  pub to : r.outcome ≡ linked.At (start + length (join (pattern_bytes v) v.count)) (links u v)
+  pub to : r.outcome ≡ Ok (start + length (join (pattern_bytes v) v.count), links u v)
   pub headings : Copied v.headings 192 (3 * v.count) r.tables.headings
   pub pairs : Copied v.pairs 2048 (2 * pairs_before v v.count) r.tables.pairs
 
@@ -121,7 +118,7 @@ module _ (file : List ℕ) (e : ℕ) (u : Tasks) (v : Patterns) (xs : List ℕ) 
     here : PartAt file d.at (heading_bytes v k ++ join (pair_bytes v k) (pair_count v k))
     here = rw (come.at, ← pattern_bytes_lem v k) (part_of_join file start (pattern_bytes v) v.count k l part)
 
-    heading_is : heading_at file d.at d.low u.count d.used ≡ heading.Of (from_task v k) (to_task v k) (pair_count v k) p
+    heading_is : heading_at file d.at d.low u.count d.used ≡ Ok (pattern (from_task v k) (to_task v k) (pair_count v k), p)
     heading_is =
         heading_read file d.at d.low u.count d.used (from_task v k) (to_task v k) (pair_count v k)
         (rw (come.low, come.used) (heading_fits_lem e u v xs h found k l)) found.tasks
@@ -167,7 +164,7 @@ module _ (file : List ℕ) (e : ℕ) (u : Tasks) (v : Patterns) (xs : List ℕ) 
   unfolding patterns_from on_pattern links
   patterns_read_lem zero k d t f c =
       let z : k ≡ v.count = omega arith in
-      record { to = ap₂ linked.At (rw z at c.at) (rw z at c.links); headings = rw z at c.headings; pairs = rw z at c.pairs }
+      record { to = ap₂ (λ a b. Ok (a, b)) (rw z at c.at) (rw z at c.links); headings = rw z at c.headings; pairs = rw z at c.pairs }
   patterns_read_lem (suc j) k d t f c =
       let one = pattern_read_lem k (omega arith) d t c in
       rw one.to (patterns_read_lem j (k + 1) one.next _ (omega arith) one.come)

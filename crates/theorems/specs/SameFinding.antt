@@ -193,7 +193,8 @@ same_finding_of s t g =
     first_same _ _ _ _ _ (ap₂ ltb (same_cycle s t g f) (jobs_agree s t g))
     (λ a. named s t g f (λ i k. Some (finding.Cycle i k)) (lowest_cycle s) (lowest_cycle t) (same_cycle s t g f))
     (λ a.
-    first_same _ _ _ _ _ (ap₂ ltb (same_room s t g f) (same_load s t g f)) (λ b. ap₂ (λ a c. Some (finding.Overload a c)) (same_load s t g f) (same_room s t g f))
+    first_same _ _ _ _ _ (ap₂ ltb (same_room s t g f) (same_load s t g f))
+    (λ b. ap₂ (λ a c. Some (finding.Overload a c)) (same_load s t g f) (same_room s t g f))
     (λ b.
     first_same _ _ _ _ _ (ap₂ ltb (same_lowest_tight s t g f) (jobs_agree s t g))
     (λ c. named s t g f (λ i k. Some (finding.TooTight i k)) (lowest_tight s) (lowest_tight t) (same_lowest_tight s t g f)) (λ c. refl))))

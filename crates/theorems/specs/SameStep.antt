@@ -20,7 +20,8 @@ use Rattle.dispatcher.specs.declared.State.{State}
 use Rattle.dispatcher.specs.declared.StepError.TheVariants as error
 use Rattle.dispatcher.specs.Answers.{Answer}
 use Rattle.dispatcher.specs.Steps.{releases, heard, done_at, done_of, asleep, byte_of, row_of, ran_of, after_of, step_of}
-use Rattle.dispatcher.specs.Refusals.{impossible, overreports, high_slot, is_high, high_place, step_rules, answer_by, if_shown, is_shown, row_at, tick_of, lengths_fit}
+use Rattle.dispatcher.specs.Refusals.{impossible, overreports, high_slot, is_high, high_place, step_rules, answer_by, if_shown, is_shown, row_at, tick_of}
+use Rattle.dispatcher.specs.Refusals.{lengths_fit}
 use Rattle.dispatcher.specs.Refusals.{answer_of, stepped, stepped_of, left_of}
 use Rattle.dispatcher.proofs.RowLaws.{table_same}
 use Rattle.dispatcher.proofs.StepFacts.{shown_kept, when_shown, when_refused, shown_or_not}

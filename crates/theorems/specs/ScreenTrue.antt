@@ -168,7 +168,8 @@ module _ (s : Set) (e : sound s ≡ true) where
   only_tight : (i k : ℕ) → FoundTight s i k → Some (finding.TooTight i k) ≡ finding_of s
   only_tight i k w =
       let m = job_to u (Tight u v) i k w.lowest in
-      let x : number_of_job u i k ≡ lowest_tight s = lowest_is (tight u v) (Tight u v) (jobs u) (tight_iff own_running w.no_cycle_lem) (number_of_job u i k) m in
+      let x : number_of_job u i k ≡ lowest_tight s =
+      lowest_is (tight u v) (Tight u v) (jobs u) (tight_iff own_running w.no_cycle_lem) (number_of_job u i k) m in
       same_job u (Tight u v) (λ a b. Some (finding.TooTight a b)) i k (lowest_tight s) w.lowest x
       ∙ sym (too_tight s e (free_lowest w.no_cycle_lem) w.no_overload (omega (arith, m.low)))
 

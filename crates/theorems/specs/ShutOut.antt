@@ -70,7 +70,8 @@ right_judge = record { names = first_rule }
 
 judged : (verdict_of small full ≡ verdict.Accepted) × (verdict_of small half ≡ verdict.WrongCount 0 0 1 0 0)
 unfolding verdict_of rules plan_rules first_of least all count total lcm lcm_of holds cycle jobs_of jobs_before jobs cycle_fits release links attributes_fit
-    task_fits opening_fits sound slot shows shown awake runs ticks high twin mated clashes strays strayed miscounts miscounted wrong_at first_tick last_tick greatest
+    task_fits opening_fits sound slot shows shown awake runs ticks high twin mated clashes strays strayed miscounts miscounted wrong_at first_tick last_tick
+    greatest
 judged = (refl, refl)
 
 module _ (judge : Set → List ℕ → Verdict) (right : RightJudge judge) where
@@ -109,8 +110,8 @@ right_screen = record { finds = finding_true }
 
 screened : (finding_of small ≡ None) × (finding_of crowded ≡ Some (finding.Overload 2 1))
 unfolding finding_by screen_rules first_of least all total table join lcm lcm_of reach loops holds cycle jobs_of jobs_before jobs cycle_fits release due
-    task_of_job job_of_job longest.most longest.entry longest.rounds soonest.fewest soonest.due soonest.soonest links attributes_fit task_fits opening_fits sound
-    cycle_links link_starts link_ends network own_release own_due own_running release_by adjusted_deadline on_cycle load room tight_by
+    task_of_job job_of_job longest.most longest.entry longest.rounds soonest.fewest soonest.due soonest.soonest links attributes_fit task_fits opening_fits
+    sound cycle_links link_starts link_ends network own_release own_due own_running release_by adjusted_deadline on_cycle load room tight_by
 screened = (refl, refl)
 
 module _ (screen : Set → Option Finding) (right : RightScreen screen) where
@@ -169,8 +170,8 @@ record Steps : Type 0 where
 
 steps : Steps
 unfolding stepped_of left_of answer_of answer_by step_rules if_shown lengths_fit first_of is_high high_slot high_place overreports impossible releases heard
-    done_at done_of asleep byte_of row_of stands_at in_row ran_of after_of step_of least all total table has pack lcm lcm_of holds cycle jobs_of jobs_before jobs
-    cycle_fits links attributes_fit task_fits opening_fits sound
+    done_at done_of asleep byte_of row_of stands_at in_row ran_of after_of step_of least all total table has pack lcm lcm_of holds cycle jobs_of jobs_before
+    jobs cycle_fits links attributes_fit task_fits opening_fits sound
 steps =
     record {
       first = record { answer = refl; left = refl };

@@ -1,5 +1,5 @@
 -- The bytes of tasks that fit, and of a pattern's pairs, are read into tables that have the entries of the set.
-use Rattle.std.specs.Prelude.{◌≡◌, leb, get_or, set, replicate}
+use Rattle.std.specs.Prelude.{◌≡◌, leb, get_or, set, replicate, Ok}
 use Rattle.std.proofs.Common.{sym, ◌∙◌, below_more, length-set, get_or-set_same, get_or-set_other}
 use Rattle.std.proofs.Math.Path.{ap}
 use Rattle.std.proofs.Math.Bool.{true}
@@ -22,7 +22,6 @@ use Rattle.kinds.specs.Cycle.{cycle_fits}
 use Rattle.kinds.specs.Links.{links}
 use Rattle.kinds.specs.Sound.{opening_fits, task_fits, sound, attributes_fit, pair_key, pair_fits, pattern_fits}
 use Rattle.kinds.specs.RangeLaws.{pair_key_more}
-use Rattle.heads.specs.declared.Outcome.TheVariants as outcome
 use Rattle.heads.specs.Tables.{TasksRead, on_task, tasks_from, PairsRead, on_two, pairs_from}
 use Rattle.writer.specs.FormatLaws.{task_bytes, pair_bytes}
 use Rattle.theorems.specs.NumbersRead.{task_read, two_read}
@@ -97,7 +96,7 @@ pair_more xs x t c l =
 -- ---- tasks
 module _ (file : List ℕ) (u : Tasks) (start : ℕ) where
   pub record TasksCome (r : TasksRead) : Type 0 where
-    pub to : r.outcome ≡ outcome.At (start + length (join (task_bytes u) u.count))
+    pub to : r.outcome ≡ Ok (start + length (join (task_bytes u) u.count))
     pub table : Copied u.attributes 256 (4 * u.count) r.table
 
   module _ (few : u.count ≤ 64) (fit : (i : ℕ) → i < u.count → attributes_fit (task_at u.attributes i) ≡ true)
@@ -105,7 +104,7 @@ module _ (file : List ℕ) (u : Tasks) (start : ℕ) where
     pub tasks_read_lem : (k i at : ℕ) (t : List ℕ) → i + k ≡ u.count → at ≡ start + length (join (task_bytes u) i) → Copied u.attributes 256 (4 * i) t
         → TasksCome (tasks_from file k i at t)
     unfolding tasks_from on_task
-    tasks_read_lem zero i at t e p c = let z : i ≡ u.count = omega arith in record { to = ap outcome.At (rw z at p); table = rw z at c }
+    tasks_read_lem zero i at t e p c = let z : i ≡ u.count = omega arith in record { to = ap Ok (rw z at p); table = rw z at c }
     tasks_read_lem (suc k) i at t e p c =
         let l : i < u.count = omega arith in
         let here : PartAt file at (task_bytes u i) = rw p (part_of_join file start (task_bytes u) u.count i l part) in
@@ -117,18 +116,19 @@ module _ (file : List ℕ) (u : Tasks) (start : ℕ) where
 -- ---- the pairs of pattern k
 module _ (file : List ℕ) (v : Patterns) (k start : ℕ) where
   pub record PairsCome (r : PairsRead) : Type 0 where
-    pub to : r.outcome ≡ outcome.At (start + length (join (pair_bytes v k) (pair_count v k)))
+    pub to : r.outcome ≡ Ok (start + length (join (pair_bytes v k) (pair_count v k)))
     pub table : Copied v.pairs 2048 (2 * (pairs_before v k + pair_count v k)) r.table
 
   module _ (la lb : ℕ) (ha : la ≤ 6000) (hb : lb ≤ 12000) (room : pairs_before v k + pair_count v k ≤ 1024)
       (fit : all (pair_fits v.pairs (pairs_before v k) la lb) (pair_count v k) ≡ true) (part : PartAt file start (join (pair_bytes v k) (pair_count v k))) where
-    pub pairs_read_lem : (j q x at : ℕ) (low : Key) (t : List ℕ) → q + j ≡ pair_count v k → x ≡ pairs_before v k + q → at ≡ start + length (join (pair_bytes v k) q)
-        → low ≡ pair_key v.pairs (pairs_before v k) q → Copied v.pairs 2048 (2 * x) t → PairsCome (pairs_from file j at low la lb x t)
+    pub pairs_read_lem : (j q x at : ℕ) (low : Key) (t : List ℕ) → q + j ≡ pair_count v k → x ≡ pairs_before v k + q
+        → at ≡ start + length (join (pair_bytes v k) q) → low ≡ pair_key v.pairs (pairs_before v k) q → Copied v.pairs 2048 (2 * x) t
+        → PairsCome (pairs_from file j at low la lb x t)
     unfolding pairs_from on_two pair_fits
     pairs_read_lem zero q x at low t e f p g c =
         let z : q ≡ pair_count v k = omega arith in
         let w : x ≡ pairs_before v k + pair_count v k = omega arith in
-        record { to = ap outcome.At (rw z at p); table = rw w at c }
+        record { to = ap Ok (rw z at p); table = rw w at c }
     pairs_read_lem (suc j) q x at low t e f p g c =
         let ps : List ℕ = v.pairs in
         let b : ℕ = pairs_before v k in

@@ -33,8 +33,8 @@ use Rattle.reader.specs.Files.{set_taken, whole_read, whole_from}
 use Rattle.std.specs.Prelude.{unwrap_or}
 use Rattle.reader.proofs.WholeLaws.{whole_none, whole_some}
 use Rattle.reader.proofs.ReadLaws.{none_sound}
-use Rattle.writer.specs.declared.lent.Lent.{Lent}
-use Rattle.writer.specs.Lent.{set_in}
+use Rattle.kinds.specs.declared.SetView.{SetView}
+use Rattle.kinds.specs.Build.{set_in}
 use Rattle.writer.specs.Wrote.{Wrote, wrote_both, wrote_long}
 
 -- ---- 10
@@ -43,7 +43,7 @@ unfolding written_of rules first_of
 bad_set s slots room e = rw e
 
 -- ---- 11, 12 and 18
-module _ (t : Lent) (slots : List ℕ) (room : ℕ) (c : CountsFound (set_in t) t.counts) where
+module _ (t : SetView) (slots : List ℕ) (room : ℕ) (c : CountsFound (set_in t) t.counts) where
   abbrev s : Set
   s = set_in t
 

@@ -13,13 +13,14 @@ use Rattle.kinds.proofs.SoundFacts.{Sound, sound_facts}
 use Rattle.numbers.specs.Numbers.{number_bytes}
 use Rattle.writer.specs.Format.{task_numbers, bytes_in, head_bytes}
 use Rattle.writer.specs.FormatLaws.{bytes_join, pattern_bytes, head_bytes_lem}
-use Rattle.writer.specs.declared.lent.Lent.{Lent}
-use Rattle.writer.specs.Lent.{part, set_in, PatternsLent}
+use Rattle.kinds.specs.declared.SetView.{SetView}
+use Rattle.writer.specs.Lent.{part, PatternsLent}
+use Rattle.kinds.specs.Build.{set_in}
 use Rattle.writer.specs.Wrote.{Wrote, wrote_both, wrote_long}
 use Rattle.writer.proofs.Widths.{width_one, three_long}
 use Rattle.writer.proofs.Turns.{tasks_part}
 
-module _ (t : Lent) (ok : sound (set_in t) ≡ true) where
+module _ (t : SetView) (ok : sound (set_in t) ≡ true) where
   abbrev s : Set
   s = set_in t
 

@@ -1,9 +1,7 @@
 -- What the parts of the writer ask of the tables that they are lent.
 use Rattle.std.specs.Prelude.{◌≡◌, List, ℕ, ◌+◌, ◌<◌, ◌≤◌, length, get_or, map}
 use Rattle.vocabulary.specs.Table.{table}
-use Rattle.kinds.specs.Tasks.{Patterns, Set, from_task, to_task, pair_count, pairs_before}
-use Rattle.kinds.specs.Build.{lent_set}
-use Rattle.writer.specs.declared.lent.Lent.{Lent}
+use Rattle.kinds.specs.Tasks.{Patterns, from_task, to_task, pair_count, pairs_before}
 use Rattle.writer.specs.Format.{bytes_in}
 
 -- n numbers of a table, from a place on
@@ -32,7 +30,3 @@ pub record PatternsLent (v : Patterns) : Type 0 where
   pub from : (k : ℕ) → k < v.count → from_task v k < 2097152
   pub to : (k : ℕ) → k < v.count → to_task v k < 2097152
   pub room : (k : ℕ) → k < v.count → pairs_before v k + pair_count v k ≤ 1024
-
--- the set that is lent
-abbrev pub set_in : Lent → Set
-set_in t = lent_set t.counts t.tables.now

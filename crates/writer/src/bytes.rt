@@ -1,17 +1,18 @@
-// A file's bytes, part after part. Each part is written from a place on, and answers the place after it.
+// A file's bytes, part after part. Each part is written from a place on, and answers the place after it: buffer and place are two parameters, since a struct
+// that lends the buffer on would say no more.
 ghost use Rattle.std.specs.Prelude.{◌≡◌, true, [], ◌∷◌, ℕ, ◌+◌, ◌*◌, ◌<◌, ◌≤◌, length, get_or};
 ghost use Rattle.vocabulary.specs.Table.{join};
+ghost use Rattle.kinds.specs.Build.{set_in};
 ghost use Rattle.kinds.specs.Tasks.{patterns_of};
 ghost use Rattle.kinds.specs.Sound.{sound};
 ghost use Rattle.numbers.specs.Numbers.{number_bytes};
 ghost use Rattle.writer.specs.Format.{bytes_in, head_bytes};
 ghost use Rattle.writer.specs.FormatLaws.{pattern_bytes};
-ghost use Rattle.writer.specs.Lent.{NumbersLent, PatternsLent, set_in};
+ghost use Rattle.writer.specs.Lent.{NumbersLent, PatternsLent};
 ghost use Rattle.writer.specs.Wrote.{Wrote, NumbersWrote};
 
 use crate::lent;
-use crate::lent::Lent;
-use kinds::{Headings, Pairs};
+use kinds::{Headings, Pairs, SetView};
 
 // A number, in its shortest form.
 fn emit_number(out: &mut [u8], at: usize, v: u32) -> usize
@@ -62,24 +63,16 @@ fn emit_patterns(out: &mut [u8], at: usize, headings: &Headings, pairs: &Pairs, 
     next
 }
 
-impl Lent<'_> {
-    // The head, from the start of the buffer on.
-    pub(crate) fn emit_head(self, out: &mut [u8]) -> usize
-        requires { (sound (set_in self) ≡ true) × (length (head_bytes (set_in self)) ≤ length out.old) }
-        ensures { Wrote out.old 0 (head_bytes (set_in self.entry)) out.new result }
-    {
-        let f = self.counts;
-        let p = emit_numbers(out, 0, &[f.edition, f.tasks as u32, f.processors]);
-        let q = emit_numbers(out, p, lent::tasks_of(&self.tables.attributes, f.tasks));
-        let r = emit_number(out, q, f.patterns as u32);
-        emit_patterns(
-            out,
-            r,
-            &self.tables.headings,
-            &self.tables.pairs,
-            f.patterns,
-        )
-    }
+// The head, from the start of the buffer on.
+pub(crate) fn emit_head<'a>(set: SetView<'a>, out: &mut [u8]) -> usize
+    requires { (sound (set_in set) ≡ true) × (length (head_bytes (set_in set)) ≤ length out.old) }
+    ensures { Wrote out.old 0 (head_bytes (set_in set.entry)) out.new result }
+{
+    let f = set.counts;
+    let p = emit_numbers(out, 0, &[f.edition, f.tasks as u32, f.processors]);
+    let q = emit_numbers(out, p, lent::tasks_of(&set.tables.attributes, f.tasks));
+    let r = emit_number(out, q, f.patterns as u32);
+    emit_patterns(out, r, &set.tables.headings, &set.tables.pairs, f.patterns)
 }
 
 // The slots.

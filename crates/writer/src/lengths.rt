@@ -1,16 +1,16 @@
 // How long a file is, before its first byte is written.
 ghost use Rattle.std.specs.Prelude.{◌≡◌, true, [], ◌∷◌, ◌+◌, ◌*◌, ◌≤◌, length};
 ghost use Rattle.vocabulary.specs.Table.{join};
+ghost use Rattle.kinds.specs.Build.{set_in};
 ghost use Rattle.kinds.specs.Tasks.{patterns_of};
 ghost use Rattle.kinds.specs.Sound.{sound};
 ghost use Rattle.numbers.specs.Numbers.{number_bytes};
 ghost use Rattle.writer.specs.Format.{bytes_in, head_bytes};
 ghost use Rattle.writer.specs.FormatLaws.{pattern_bytes};
-ghost use Rattle.writer.specs.Lent.{NumbersLong, PatternsLent, set_in};
+ghost use Rattle.writer.specs.Lent.{NumbersLong, PatternsLent};
 
 use crate::lent;
-use crate::lent::Lent;
-use kinds::{Headings, Pairs};
+use kinds::{Headings, Pairs, SetView};
 
 // How many bytes a number has.
 fn width(v: u32) -> usize
@@ -54,17 +54,11 @@ fn patterns_length(headings: &Headings, pairs: &Pairs, n: usize) -> usize
     total
 }
 
-impl Lent<'_> {
-    // How many bytes the head has. Edition, task count, m and pattern count are below 128: a byte each.
-    pub(crate) fn head_length(self) -> usize
-        requires { sound (set_in self) ≡ true }
-        ensures { (result ≡ length (head_bytes (set_in self.entry))) × (result ≤ 7492) }
-    {
-        4 + numbers_length(lent::tasks_of(&self.tables.attributes, self.counts.tasks))
-            + patterns_length(
-                &self.tables.headings,
-                &self.tables.pairs,
-                self.counts.patterns,
-            )
-    }
+// How many bytes the head has. Edition, task count, m and pattern count are below 128: a byte each.
+pub(crate) fn head_length<'a>(set: SetView<'a>) -> usize
+    requires { sound (set_in set) ≡ true }
+    ensures { (result ≡ length (head_bytes (set_in set.entry))) × (result ≤ 7492) }
+{
+    4 + numbers_length(lent::tasks_of(&set.tables.attributes, set.counts.tasks))
+        + patterns_length(&set.tables.headings, &set.tables.pairs, set.counts.patterns)
 }

@@ -1,14 +1,8 @@
-// A set as it is lent: its counts and its tables, and their numbers in the order of a file.
+// The numbers of a lent set in the order of a file.
 ghost use Rattle.std.specs.Prelude.{◌≡◌, ◌+◌, ◌*◌, ◌≤◌};
 ghost use Rattle.writer.specs.Lent.{part};
 
-use kinds::{Attributes, Counts, Pairs, Tables, TaskSet};
-
-#[derive(Clone, Copy)]
-pub(crate) struct Lent<'a> {
-    pub(crate) counts: Counts,
-    pub(crate) tables: &'a Tables,
-}
+use kinds::{Attributes, Pairs, TaskSet};
 
 // The numbers of the first n tasks.
 pub(crate) fn tasks_of(attributes: &Attributes, n: usize) -> &[u32]

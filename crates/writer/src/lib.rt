@@ -4,12 +4,11 @@
 ghost use Rattle.std.specs.Prelude.{◌≡◌, get_or};
 ghost use Rattle.kinds.specs.Tasks.{view};
 ghost use Rattle.kinds.specs.SoundByTests.{CountsFound};
-ghost use Rattle.writer.specs.Lent.{set_in};
+ghost use Rattle.kinds.specs.Build.{set_in};
 ghost use Rattle.writer.specs.Answers.{number_of, evidence_of};
 ghost use Rattle.writer.specs.Writing.{written_of, write_leaves, write_for, written_head, write_head_for};
 
-use kinds::{Tables, TaskSet};
-use lent::Lent;
+use kinds::{SetView, Tables, TaskSet};
 
 mod bytes;
 mod lengths;
@@ -25,36 +24,34 @@ pub enum WriteError {
     TooShort,
 }
 
-impl Lent<'_> {
-    // What is answered for a sound set, a plan and a buffer of so many bytes: the first of 11, 12 and 18, or the file's length.
-    fn answer(self, plan: &[u8], room: usize) -> Result<usize, WriteError>
-        requires { CountsFound (set_in self) self.counts }
-        ensures { result ≡ written_of (set_in self.entry) plan.now room }
-    {
-        let f = self.counts;
-        if plan.len() != f.processors as usize * f.ticks as usize {
-            return Err(WriteError::WrongLength);
-        }
-        if let Some(e) = slots::first_high(plan, f.tasks) {
-            return Err(WriteError::BadSlot(e));
-        }
-        let length = self.head_length() + plan.len();
-        if room < length {
-            return Err(WriteError::TooShort);
-        }
-        Ok(length)
+// What is answered for a sound set, a plan and a buffer of so many bytes: the first of 11, 12 and 18, or the file's length.
+fn answer<'a>(set: SetView<'a>, plan: &[u8], room: usize) -> Result<usize, WriteError>
+    requires { CountsFound (set_in set) set.counts }
+    ensures { result ≡ written_of (set_in set.entry) plan.now room }
+{
+    let f = set.counts;
+    if plan.len() != f.processors as usize * f.ticks as usize {
+        return Err(WriteError::WrongLength);
     }
+    if let Some(e) = slots::first_high(plan, f.tasks) {
+        return Err(WriteError::BadSlot(e));
+    }
+    let length = lengths::head_length(set) + plan.len();
+    if room < length {
+        return Err(WriteError::TooShort);
+    }
+    Ok(length)
+}
 
-    // Writes the file of a sound set and a plan, where nothing is refused.
-    fn write(self, plan: &[u8], out: &mut [u8]) -> Result<usize, WriteError>
-        requires { CountsFound (set_in self) self.counts }
-        ensures { write_leaves result out.new ≡ write_for (set_in self.entry) plan.now out.old }
-    {
-        let n = self.answer(plan, out.len())?;
-        let at = self.emit_head(out);
-        bytes::emit_slots(out, at, plan);
-        Ok(n)
-    }
+// Writes the file of a sound set and a plan, where nothing is refused.
+fn write_set<'a>(set: SetView<'a>, plan: &[u8], out: &mut [u8]) -> Result<usize, WriteError>
+    requires { CountsFound (set_in set) set.counts }
+    ensures { write_leaves result out.new ≡ write_for (set_in set.entry) plan.now out.old }
+{
+    let n = answer(set, plan, out.len())?;
+    let at = bytes::emit_head(set, out);
+    bytes::emit_slots(out, at, plan);
+    Ok(n)
 }
 
 // Writes the file of a set and a plan. A refusal, the first of 10, 11, 12 and 18, leaves the buffer as it is.
@@ -65,7 +62,7 @@ pub fn write(set: TaskSet, plan: &[u8], out: &mut [u8]) -> Result<usize, WriteEr
         return Err(WriteError::BadSet);
     };
     let tables = &set.tables;
-    Lent { counts, tables }.write(plan, out)
+    write_set(SetView { counts, tables }, plan, out)
 }
 
 // The same on tasks as a file's head.
@@ -77,7 +74,7 @@ pub fn write_head(tasks: &[u8], plan: &[u8], out: &mut [u8]) -> Result<usize, Wr
         return Err(WriteError::BadSet);
     };
     let tables = &tables;
-    Lent { counts, tables }.write(plan, out)
+    write_set(SetView { counts, tables }, plan, out)
 }
 
 // What `write_head` answers for a buffer of so many bytes. Each has tables of its own: with a closure over the buffer it would be no plainer.
@@ -89,10 +86,10 @@ pub fn written_head(tasks: &[u8], plan: &[u8], room: usize) -> Result<usize, Wri
         return Err(WriteError::BadSet);
     };
     let tables = &tables;
-    Lent { counts, tables }.answer(plan, room)
+    answer(SetView { counts, tables }, plan, room)
 }
 
-// The number of an answer: 0, 10, 11, 12 or 18.
+// The number of an answer: 0, 10, 11, 12 or 18. A call of its own and no From: pages and calls for C name it.
 pub fn number_of(w: Result<usize, WriteError>) -> u32
     ensures { result ≡ number_of w }
 {

@@ -6,8 +6,8 @@ use Rattle.writer.proofs.write.Goals as goal
 pub returns-in_default : goal.returns-in_default
 returns-in_default c = not_written _ _ _ (counts_none _ c.in_default.ensures)
 
-pub write-requires : goal.write-requires
-write-requires c = lent_found _ (counts_found _ c.in-Some.ensures)
+pub write_set-requires : goal.write_set-requires
+write_set-requires c = lent_found _ (counts_found _ c.in-Some.ensures)
 
 pub returns : goal.returns
-returns c = c.write.ensures ∙ lent_written _ (counts_found _ c.in-Some.ensures) _ _
+returns c = c.write_set.ensures ∙ lent_written _ (counts_found _ c.in-Some.ensures) _ _

@@ -6,8 +6,8 @@ use Rattle.writer.proofs.write_head.Goals as goal
 pub returns-in_default : goal.returns-in_default
 returns-in_default c = no_head_written _ _ _ _ (rw c.new-tables.ensures at c.read_whole.ensures) _ c.in_default.is
 
-pub write-requires : goal.write-requires
-write-requires c = whole_found _ _ _ (rw c.new-tables.ensures at c.read_whole.ensures) c.in-Some.is
+pub write_set-requires : goal.write_set-requires
+write_set-requires c = whole_found _ _ _ (rw c.new-tables.ensures at c.read_whole.ensures) c.in-Some.is
 
 pub returns : goal.returns
-returns c = c.write.ensures ∙ head_written _ _ _ _ (rw c.new-tables.ensures at c.read_whole.ensures) c.in-Some.is _
+returns c = c.write_set.ensures ∙ head_written _ _ _ _ (rw c.new-tables.ensures at c.read_whole.ensures) c.in-Some.is _
