@@ -1,5 +1,6 @@
 // The network of a set: the links between the jobs of a cycle, the times that they leave, and what is found of both. The buffers for releases and deadlines
-// go on as two, as C lends them: a struct of both would only be taken apart again. Jobs and links are rows of numbers, which graph's definitions read by column.
+// go on as two, as C lends them: a struct of both would only be taken apart again. Jobs and links are rows of numbers, which graph's definitions read by
+// column.
 #![tactic(auto)]
 
 ghost use Rattle.std.specs.Prelude.{Some};
