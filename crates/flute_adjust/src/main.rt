@@ -24,7 +24,13 @@ fn print_answer(rt: &impl Print, a: Result<(), Unadjusted>, jobs: usize) -> Resu
     put_answer(line, a, jobs).put(b"\n").print(rt)
 }
 
-fn print_job(rt: &impl Print, i: usize, k: usize, release: i32, deadline: i32) -> Result<(), Error> {
+fn print_job(
+    rt: &impl Print,
+    i: usize,
+    k: usize,
+    release: i32,
+    deadline: i32,
+) -> Result<(), Error> {
     let line = Line::new().put_column(i as u64, 2).put_column(k as u64, 5);
     line.put_signed_column(release, 7)
         .put_signed_column(deadline, 10)
@@ -66,7 +72,14 @@ fn print_by(
     if a.is_err() {
         return Ok(());
     }
-    print_times(rt, &set.tables.attributes, set.tasks, h, releases, deadlines)
+    print_times(
+        rt,
+        &set.tables.attributes,
+        set.tasks,
+        h,
+        releases,
+        deadlines,
+    )
 }
 
 fn print_adjusted(rt: &impl Print, set: TaskSet) -> Result<(), Error> {

@@ -141,7 +141,11 @@ fn judge_and_play<R: Files + Env + Print + Eprint + Alloc>(
     let verdict = started.verdict;
     match verdict {
         Verdict::Accepted => play_accepted(rt, set, plan, started.state),
-        _ => verdicts::print_verdict(rt, verdict, verdicts::asked_of(verdict, &set.tables.attributes)),
+        _ => verdicts::print_verdict(
+            rt,
+            verdict,
+            verdicts::asked_of(verdict, &set.tables.attributes),
+        ),
     }
 }
 
