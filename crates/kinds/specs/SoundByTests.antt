@@ -43,6 +43,9 @@ module _ (u : Tasks) (few : u.count ≤ 64) (fit : all (task_fits u) u.count ≡
       let t : c.ticks ≡ cycle u = ap (λ (x : Cycle). x.ticks) w.1 in
       (w.0, w.1, omega (arith, t, leb-true (cycle u) 6000 (both {a = leb (cycle u) 6000} w.0).0))
 
+  pub cycle_is_lem : {r : Option Cycle} → r ≡ cycle_of u → cycle_fits u ≡ true → r ≡ Some (cycle_is u)
+  cycle_is_lem e p = e ∙ told ∙ rw p
+
 -- ---- what `sound_cycle` is, by the last test
 pub no_cycle_lem : (s : Set) → false ≡ sound s → None ≡ sound_cycle s
 unfolding sound_cycle

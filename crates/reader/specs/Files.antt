@@ -47,7 +47,7 @@ unfoldable pub on_head : List ℕ → Head → List ℕ → PatternTables → An
 on_head s (Ok (f, at)) t v = closed_of s at f (set_of f t v)
 on_head s (Err r) t v = Err r
 
--- and a file that is read its set and the place of its first slot.
+-- Rule R5.5: a file that is read gives its set and the place of its first slot, and any other its refusal.
 unfoldable pub read_of : List ℕ → Answer
 read_of s = let r : HeadRead = head_from s no_attributes no_pattern_tables in on_head s r.outcome r.tasks r.patterns
 
