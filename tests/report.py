@@ -105,7 +105,7 @@ def law_files(crate):
 
 
 # ---- the tree
-FN = re.compile(r'(?P<pub>\bpub\s+)?(?P<c>extern\s+"C"\s+)?\bfn\s+(?P<name>\w+)\s*(?:<[^>]*>)?\s*\(')
+FN = re.compile(r'(?P<pub>\bpub\s+)?(?P<c>extern\s+"C"\s+)?\bfn\s+(?P<name>\w+)\s*(?=[<(])')
 SIGNATURE = re.compile(r'( *)((?:unfoldable |abbrev )?)(?:pub )?([^\s:()]+) : (.*)')
 DATA = ('ℕ', 'ℤ', 'Bool', 'List', 'Set', 'Type')
 
@@ -198,7 +198,8 @@ def proofs_section(lines, tried, crates):
     proved = {m[1] for m in (re.match(r'rt: (\w+) proved$', x) for x in lines) if m}
     # what an earlier run proved of the very same files is kept, and its functions are not shown again
     kept = {m[1] for m in (re.match(r'rt: (\w+) is kept: an earlier run on this machine proved the same files', x) for x in lines) if m}
-    shown = {(m[1], m[2]) for m in (re.match(r'fn (\w+)::(\S+): proved$', x) for x in lines) if m}
+    # (a closure is a part of its function, under a name in which `fn` stands, and what the compiler makes has a + in its name)
+    shown = {(m[1], m[2]) for m in (re.match(r'fn (\w+)::(?!\S*fn::)([^\s+]+): proved$', x) for x in lines) if m}
     assumed, last = {}, None
     for x in lines:
         if x.startswith('logic=proved '):
@@ -335,7 +336,7 @@ def main():
                      f'for {in_words(counts["functions"], "function", "functions")}. They are held against {in_words(counts["definitions"], "definition", "definitions")}, among them the',
                      f'rules of the product (`docs/RULES.md`) in exact form; {in_words(counts["laws"], "statement", "statements")} about these are proved as well. Of the functions',
                      f'{counts["public"]} can be called from outside their part, {counts["for C"]} of them from C.',
-                     f'{counts["asking"]} of these ask something of their caller.' if counts['asking'] else 'None of these asks anything of its caller.')
+                     f'{in_words(counts["asking"], "asks", "ask")} something of the caller: that the closure that it is handed can be called.' if counts['asking'] else 'None of these asks anything of its caller.')
     out += ['## The three demands', '']
     out += paragraph('They stand on one page, as statements about the bytes that a controller has, in `crates/theorems/proofs/Demands.antt`; each names its proof.')
     out += demands
