@@ -323,7 +323,7 @@ def main():
     cases = outside_section(parts.get('outside', []))
 
     out = ['# What was proved and what was tested', '']
-    out += paragraph('For those who ride the engine and those who answer for it. This page is written by `tests/report.py` from the log of a run of every part of the gate and from',
+    out += paragraph('For those who ride the engine and those who answer for it. This page is written by `tests/report.py` from the log of one full run of the gate and from',
                      'the tree it ran on; it has no figure that was not counted there.')
     if problems:
         out += ['**THIS RUN DOES NOT STAND:**', ''] + [f'- {x}' for x in problems] + ['']
@@ -336,7 +336,7 @@ def main():
                      f'for {in_words(counts["functions"], "function", "functions")}. They are held against {in_words(counts["definitions"], "definition", "definitions")}, among them the',
                      f'rules of the product (`docs/RULES.md`) in exact form; {in_words(counts["laws"], "statement", "statements")} about these are proved as well. Of the functions',
                      f'{counts["public"]} can be called from outside their part, {counts["for C"]} of them from C.',
-                     f'Of these {in_words(counts["asking"], "asks", "ask")} something of the caller: that the closure that it is handed can be called.' if counts['asking'] else 'None of these asks anything of its caller.')
+                     f'{counts["asking"]} of these ask something of their caller.' if counts['asking'] else 'None of these asks anything of its caller.')
     out += ['## The three demands', '']
     out += paragraph('They stand on one page, as statements about the bytes that a controller has, in `crates/theorems/proofs/Demands.antt`; each names its proof.')
     out += demands

@@ -60,11 +60,9 @@ def constants():
         source = number(*HEADER[name]) if name in HEADER else None
         yield None if source is not None and header.get(name) == str(source) else f'{name} is {header.get(name)} in the header and {source} where it comes from'
     longest = number(*HEADER['FLUTE_LONGEST_FILE'])
-    # The programs read their plan file by one function, which has the buffer.
-    buffered = 'let mut file = io::large_buffer();' in read('crates/wording/src/lib.rt')
     for name in sorted(os.listdir(os.path.join(TOP, 'crates'))):
         if name.startswith('flute_'):
-            fits = longest is not None and longest < BUFFER and buffered and 'wording::with_plan(' in read(f'crates/{name}/src/main.rt')
+            fits = longest is not None and longest < BUFFER and 'let mut file = io::large_buffer();' in read(f'crates/{name}/src/main.rt')
             yield None if fits else f'{name} has no buffer for the longest file'
 
 

@@ -25,7 +25,9 @@ pub fn has_arg(rt: &impl Env, i: usize) -> bool {
 }
 
 // Puts argument i into buf and answers its bytes there, none where it is missing or longer than buf.
-fn arg<'a>(rt: &impl Env, i: usize, buf: &'a mut [u8]) -> &'a [u8] {
+fn arg<'a>(rt: &impl Env, i: usize, buf: &'a mut [u8]) -> &'a [u8]
+    ensures { IsPrefixLen (length result.now) buf.old }
+{
     match rt.arg(i, buf) {
         Ok(n) => &buf[..n],
         Err(_) => &[],

@@ -96,5 +96,9 @@ fn print_adjusted(rt: &impl Print, set: TaskSet) -> Result<(), Error> {
 }
 
 fn main(rt: HostRuntime) -> Result<(), Error> {
-    wording::with_plan(&rt, |_, _, set| print_adjusted(&rt, set))
+    let mut file = io::large_buffer();
+    let Some((_, plan)) = wording::load_plan(&rt, &mut file)? else {
+        return Ok(());
+    };
+    print_adjusted(&rt, plan.set)
 }

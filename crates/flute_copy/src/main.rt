@@ -60,8 +60,9 @@ fn write_anew(
 }
 
 fn main(rt: HostRuntime) -> Result<()> {
-    wording::with_plan(
-        &rt,
-        |file, _, set| write_anew(&rt, file, set, place::slots_of(file)),
-    )
+    let mut file = io::large_buffer();
+    let Some((n, plan)) = wording::load_plan(&rt, &mut file)? else {
+        return Ok(());
+    };
+    write_anew(&rt, &file[..n], plan.set, place::slots_of(&file[..n]))
 }

@@ -10,8 +10,9 @@ fn judge_and_print(rt: &impl Print, set: TaskSet, plan: &[u8]) -> Result<()> {
 }
 
 fn main(rt: HostRuntime) -> Result<()> {
-    wording::with_plan(
-        &rt,
-        |file, _, set| judge_and_print(&rt, set, place::slots_of(file)),
-    )
+    let mut file = io::large_buffer();
+    let Some((n, plan)) = wording::load_plan(&rt, &mut file)? else {
+        return Ok(());
+    };
+    judge_and_print(&rt, plan.set, place::slots_of(&file[..n]))
 }

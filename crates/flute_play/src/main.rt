@@ -67,7 +67,7 @@ fn print_refused(rt: &impl Print, e: StepError) -> Result<()> {
 // What an accepted plan is played with: so many steps, each with its report.
 #[derive(Clone, Copy)]
 struct Play<'a> {
-    set: TaskSet,
+    set: &'a TaskSet,
     plan: &'a [u8],
     reports: &'a [u8],
     steps: usize,
@@ -76,9 +76,11 @@ struct Play<'a> {
 impl<'a> Play<'a> {
     // Plays the steps from a state on, as far as none is refused. The row has a byte a processor.
     fn play_from(&self, rt: &impl Print, start: State, row: &mut [u8]) -> Result<()> {
+        // A set of the function's own: each step takes it by value, and one behind a reference is copied more often.
+        let set = *self.set;
         let mut state = start;
         for k in 0..self.steps {
-            let r = state.step(self.set, self.plan, report_of(self.reports, k), row);
+            let r = state.step(set, self.plan, report_of(self.reports, k), row);
             if let Err(e) = r.answer {
                 return print_refused(rt, e);
             }
@@ -103,12 +105,12 @@ impl<'a> Play<'a> {
 // buffer: 8,192 steps.
 fn play_accepted<R: Files + Env + Print + Eprint + Alloc>(
     rt: &R,
-    set: TaskSet,
+    set: &TaskSet,
     plan: &[u8],
     state: State,
 ) -> Result<()> {
     if !console::has_arg(rt, 2) {
-        let Some(f) = kinds::counts_of(set) else {
+        let Some(f) = kinds::counts_of(*set) else {
             return Ok(());
         };
         let cycle = Play {
@@ -134,10 +136,10 @@ fn play_accepted<R: Files + Env + Print + Eprint + Alloc>(
 
 fn judge_and_play<R: Files + Env + Print + Eprint + Alloc>(
     rt: &R,
-    set: TaskSet,
+    set: &TaskSet,
     plan: &[u8],
 ) -> Result<()> {
-    let started = State::new().start(set, plan);
+    let started = State::new().start(*set, plan);
     let verdict = started.verdict;
     match verdict {
         Verdict::Accepted => play_accepted(rt, set, plan, started.state),
@@ -150,8 +152,9 @@ fn judge_and_play<R: Files + Env + Print + Eprint + Alloc>(
 }
 
 fn main(rt: HostRuntime) -> Result<()> {
-    wording::with_plan(
-        &rt,
-        |file, _, set| judge_and_play(&rt, set, place::slots_of(file)),
-    )
+    let mut file = io::large_buffer();
+    let Some((n, plan)) = wording::load_plan(&rt, &mut file)? else {
+        return Ok(());
+    };
+    judge_and_play(&rt, &plan.set, place::slots_of(&file[..n]))
 }

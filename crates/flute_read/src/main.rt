@@ -56,5 +56,9 @@ fn print_set(rt: &impl Print, place: usize, set: TaskSet) -> Result<()> {
 }
 
 fn main(rt: HostRuntime) -> Result<()> {
-    wording::with_plan(&rt, |_, place, set| print_set(&rt, place, set))
+    let mut file = io::large_buffer();
+    let Some((_, plan)) = wording::load_plan(&rt, &mut file)? else {
+        return Ok(());
+    };
+    print_set(&rt, plan.first_slot, plan.set)
 }

@@ -90,5 +90,9 @@ fn print_finding(rt: &impl Print, set: TaskSet) -> Result<()> {
 }
 
 fn main(rt: HostRuntime) -> Result<()> {
-    wording::with_plan(&rt, |_, _, set| print_finding(&rt, set))
+    let mut file = io::large_buffer();
+    let Some((_, plan)) = wording::load_plan(&rt, &mut file)? else {
+        return Ok(());
+    };
+    print_finding(&rt, plan.set)
 }

@@ -98,8 +98,9 @@ fn show(rt: &impl Print, place: usize, set: TaskSet, plan: &[u8]) -> Result<()> 
 }
 
 fn main(rt: HostRuntime) -> Result<()> {
-    wording::with_plan(
-        &rt,
-        |file, place, set| show(&rt, place, set, place::slots_of(file)),
-    )
+    let mut file = io::large_buffer();
+    let Some((n, plan)) = wording::load_plan(&rt, &mut file)? else {
+        return Ok(());
+    };
+    show(&rt, plan.first_slot, plan.set, place::slots_of(&file[..n]))
 }

@@ -200,7 +200,8 @@ fn read_count(
     Err(Refusal::OutOfLimits(at))
 }
 
-// A pattern's two tasks, which are not one, and its pair count, and the place after them.
+// A pattern's two tasks, which are not one, and its pair count, and the place after them. Beside `read_two`: two tasks that are one are refused at the place of
+// the second, which that does not hand on.
 fn read_heading(
     file: &[u8],
     at: usize,

@@ -7,7 +7,7 @@ ghost use Rattle.vocabulary.specs.Total.{total};
 ghost use Rattle.vocabulary.specs.Least.{all};
 ghost use Rattle.vocabulary.specs.Multiple.{lcm};
 ghost use Rattle.kinds.specs.Limits.{Range, range, holds, periods, rises};
-ghost use Rattle.kinds.specs.Editions.{edition_of, rounds_of};
+ghost use Rattle.kinds.specs.Editions.{over, edition_of, rounds_of};
 ghost use Rattle.kinds.specs.Tasks.{Tasks, period, tasks_of, patterns_of, pairs_in, task_in, pattern_in, pair_in, view};
 ghost use Rattle.kinds.specs.Cycle.{multiple_of, ticks_of, cycle_of};
 ghost use Rattle.kinds.specs.Links.{spans_of, links_in};
@@ -139,7 +139,7 @@ impl Edition {
     pub const LIMIT: u32 = Edition::SECOND + 1;
 
     // The edition with this number, if it is known.
-    pub fn of(number: u32) -> Option<Edition>
+    pub fn known(number: u32) -> Option<Edition>
         ensures { result ≡ edition_of number }
     {
         match number {
@@ -149,14 +149,11 @@ impl Edition {
         }
     }
 
-    // Over how many rounds the edition with this number reaches; one that is not known reaches over none.
-    fn rounds_of(number: u32) -> u32
-        ensures { result ≡ rounds_of number }
+    // The edition with this number; one that is not known reaches over no round.
+    pub fn of(number: u32) -> Edition
+        ensures { result ≡ over (rounds_of number) }
     {
-        match Edition::of(number) {
-            Some(edition) => edition.rounds,
-            None => 0,
-        }
+        Edition::known(number).unwrap_or(Edition { rounds: 0 })
     }
 }
 
@@ -434,11 +431,11 @@ pub fn spans_of(edition: u32, s: u32, t: u32) -> Spans
             second: 0,
         };
     }
-    let rounds = Edition::rounds_of(edition);
+    let e = Edition::of(edition);
     Spans {
         whole: p,
         first: p / s,
-        second: rounds * (p / t),
+        second: e.rounds * (p / t),
     }
 }
 

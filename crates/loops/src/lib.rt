@@ -25,6 +25,7 @@ fn all_linked(links: &[[u16; 2]], n: usize) -> bool
     true
 }
 
+// A loop and not `fill`: that needs clones of rows, whose proof did not close.
 fn clear(jobs: &mut [[u32; 3]])
     ensures { jobs.new ≡ no_rows (length jobs.old) }
 {

@@ -477,26 +477,19 @@ pub record Worked (u : Tasks) (links rows : List (List ℕ)) (r : Option Trouble
   pub free : jobs u ≤ lowest_job u links
       → (r ≡ tight_by u (length rows) (least (over rows) (length rows))) × Put rows a b a' b' × TimesIn u links rows
 
-module _ (u : Tasks) (h : ℕ) (links : List (List ℕ)) (next : List ℕ) (rows₀ rows : List (List ℕ)) (q : SolveAsked u h links next rows₀) where
-  asked : (x : ℕ) → x ≤ jobs u → JobAsked u h x
-  asked x l =
-      let f = q.rounds.own.fit in
-      record { few = f.few; some = f.some; ticks = f.ticks; low = omega (arith, f.few_jobs) }
-
+module _ (u : Tasks) (links rows : List (List ℕ)) where
   abbrev g : Graph
   g = graph_of (starts links) (ends links) (jobs u)
 
   -- x is the lowest on a cycle
   module _ (x : ℕ) (s : Solved u links rows (Some x)) where
-    is : (x ≡ least (loops g) (jobs u)) × (x < jobs u) × (loops g x ≡ true)
-    is = some_least (loops g) (jobs u) x s.answer
-
-    pub cycle_asked : JobAsked u h x
-    cycle_asked = asked x (omega (arith, is.1))
+    pub lowest_is_low : (x ≡ least (loops g) (jobs u)) × (x < jobs u) × (loops g x ≡ true)
+    lowest_is_low = some_least (loops g) (jobs u) x s.answer
 
     pub worked_cycle : {j : Job} → j ≡ job_at u x → (a b : List ℤ) → Worked u links rows (Some (trouble.Cycle j)) a b a b
     unfolding lowest
     worked_cycle e a b =
+        let is = lowest_is_low in
         record {
           cyclic = λ m. (ap (λ (z : Job). Some (trouble.Cycle z)) (e ∙ ap (job_at u) is.0), refl, refl);
           free = λ m. absurd (omega (arith, is.0, is.1));
@@ -512,7 +505,7 @@ module _ (u : Tasks) (h : ℕ) (links : List (List ℕ)) (next : List ℕ) (rows
     solved_low = low_rows u links rows (s.times refl)
 
     module _ (a b a' b' : List ℤ) (p : Put rows a b a' b') where
-      worked : {r : Option Trouble} → r ≡ tight_by u (length rows) (least (over rows) (length rows)) → Worked u links rows r a b a' b'
+      pub worked : {r : Option Trouble} → r ≡ tight_by u (length rows) (least (over rows) (length rows)) → Worked u links rows r a b a' b'
       worked e =
           record { cyclic = λ m. absurd (omega (arith, free_of)); free = λ m. (e, p, s.times refl) }
 
@@ -520,11 +513,21 @@ module _ (u : Tasks) (h : ℕ) (links : List (List ℕ)) (next : List ℕ) (rows
       worked_none e = worked (rw (none_least (over rows) (length rows) e).1)
 
       module _ (y : ℕ) (e : Some y ≡ least.lowest (over rows) (length rows)) where
-        found : (y ≡ least (over rows) (length rows)) × (y < length rows) × (over rows y ≡ true)
-        found = some_least (over rows) (length rows) y e
-
-        pub tight_asked : JobAsked u h y
-        tight_asked = asked y (omega (arith, found.1, s.sized))
+        pub first_over_is : (y ≡ least (over rows) (length rows)) × (y < length rows) × (over rows y ≡ true)
+        first_over_is = some_least (over rows) (length rows) y e
 
         pub worked_tight : {j : Job} → j ≡ job_at u y → Worked u links rows (Some (trouble.Tight j)) a b a' b'
-        worked_tight ej = worked (rw (ej, ← found.0, lt-ltb _ _ found.1))
+        worked_tight ej = worked (rw (ej, ← first_over_is.0, lt-ltb _ _ first_over_is.1))
+
+-- ---- a job's task and place can be asked for
+module _ (u : Tasks) (h : ℕ) (links : List (List ℕ)) (next : List ℕ) (rows₀ rows : List (List ℕ)) (q : SolveAsked u h links next rows₀) where
+  asked : (x : ℕ) → x ≤ jobs u → JobAsked u h x
+  asked x l =
+      let f = q.rounds.own.fit in
+      record { few = f.few; some = f.some; ticks = f.ticks; low = omega (arith, f.few_jobs) }
+
+  pub cycle_asked : (x : ℕ) → Solved u links rows (Some x) → JobAsked u h x
+  cycle_asked x s = asked x (omega (arith, (lowest_is_low u links rows x s).1))
+
+  pub tight_asked : Solved u links rows None → (y : ℕ) → Some y ≡ least.lowest (over rows) (length rows) → JobAsked u h y
+  tight_asked s y e = asked y (omega (arith, (some_least (over rows) (length rows) y e).1, s.sized))

@@ -128,7 +128,7 @@ pub fn adjusted_head(tasks: &[u8], releases: usize, deadlines: usize) -> Result<
     adjusted_of(found_head(tasks), releases, deadlines)
 }
 
-// The call for adjusted times, on tasks as a file's head.
+// The call for adjusted times, on tasks as a file's head. Two lines over other calls, as `adjust` is: one function of both would be no plainer.
 pub fn adjust_head(
     tasks: &[u8],
     releases: &mut [i32],

@@ -1,1 +1,2 @@
+pub mod PlanFiles
 pub mod Signs

@@ -1,13 +1,15 @@
 // What the programs say: counts and jobs in a line, the lines for a file that is read or refused, and the lines of its tasks.
 #![tactic(auto)]
 
-ghost use Rattle.std.specs.Prelude.{◌<◌, ◌≡◌};
+ghost use Rattle.std.specs.Prelude.{◌<◌, ◌≡◌, IfOk, IfSome, length};
 ghost use Rattle.console.specs.Lines.{Continues};
+ghost use Rattle.wording.specs.PlanFiles.{IsPlanIn};
 ghost use Rattle.wording.specs.Signs.{sign_of};
 
 use console::Line;
 use kinds::{Attributes, Counts, Task, TaskSet};
 use numbers::Refusal;
+use reader::Loaded;
 use std::env::Env;
 use std::fs::Files;
 use std::io::Result;
@@ -85,21 +87,24 @@ pub fn print_refusal(rt: &impl Print, r: Refusal) -> Result<()> {
         .print(rt)
 }
 
-// Reads the plan file that the first argument names, or standard input, and hands its bytes, the place of its first slot and its task set to what the
-// program does with them. A file that cannot be opened or that the reader refuses gets its line, and nothing else is done.
-pub fn with_plan<
-    R: Files + Env + std::io::Input + Print + Eprint + Alloc,
-    F: FnOnce(&[u8], usize, TaskSet) -> Result<()>,
->(rt: &R, then: F) -> Result<()>
-    requires { F.IsAlwaysCallable then }
+// Reads the plan file that the first argument names, or standard input, into buf, and answers how many of its bytes now stand at the start, with its task set
+// and the place of its first slot. A file that cannot be opened or that the reader refuses gets its line, and answers none.
+pub fn load_plan<R: Files + Env + std::io::Input + Print + Eprint + Alloc>(
+    rt: &R,
+    buf: &mut [u8],
+) -> Result<Option<(usize, Loaded)>>
+    ensures kept { length buf.new ≡ length buf.old }
+    ensures ok { IfOk result (λ read. IfSome read (λ plan. IsPlanIn plan.0 plan.1 buf.new)) }
 {
-    let mut file = io::large_buffer();
-    let Some(n) = console::load(rt, &mut file)? else {
-        return Ok(());
+    let Some(n) = console::load(rt, buf)? else {
+        return Ok(None);
     };
-    match reader::read(&file[..n]) {
-        Err(r) => print_refusal(rt, r),
-        Ok(loaded) => then(&file[..n], loaded.first_slot, loaded.set),
+    match place::plan_of(&buf[..n]) {
+        Ok(loaded) => Ok(Some((n, loaded))),
+        Err(r) => {
+            print_refusal(rt, r)?;
+            Ok(None)
+        }
     }
 }
 

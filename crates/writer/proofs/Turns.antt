@@ -4,10 +4,8 @@ use mathlib.Core.List.{List, [], ◌∷◌, ◌++◌, map, append_assoc}
 use Prim.Native.Nat.{ℕ, zero, suc, ◌+◌, ◌*◌, ◌<◌, ◌≤◌}
 use native.Mathlib.Nat.{le_antisymm}
 use native.Mathlib.Omega.{arith}
-use lib.ListN.{length, get_or, take, drop, length-append}
-use lib.Seq.{sets-eq, take-length}
-use borrow.Rule.Slice.PartMut.{put_mid}
-use Rattle.std.proofs.lemmas.Slice.{put_mid-paste}
+use lib.ListN.{length, get_or, set, take, drop, length-append}
+use lib.Seq.{paste, paste-zero, paste-suc, length-paste, sets-eq, take-length}
 use Rattle.std.proofs.lemmas.List.{map-id, map_more, take-map, get_or-map, get_or-take, get_or-drop, length-drop, length-take-le, take_all, take-append-drop}
 use Rattle.vocabulary.specs.Table.{table, join}
 use Rattle.vocabulary.proofs.Table.{table_end, length_table, get_or_table, is_table}
@@ -178,15 +176,26 @@ pairs_part ps start (suc n) =
     let b : 2 * (start + n) + 1 ≡ 2 * start + (2 * n + 1) = omega arith in
     ap₂ ◌++◌ (pairs_part ps start n) (two_same (ap g a) (ap g b)) ∙ sym (two_more f (2 * n)) ∙ ap (table f) (sym z)
 
--- ---- the slots, as they are copied
+-- ---- the slots, one after another
 module _ (out : List ℕ) (at : ℕ) (slots : List ℕ) where
-  pub copied : {new : List ℕ} {k : ℕ} → at + length slots ≤ length out → length slots ≡ k → new ≡ slots
-      → Wrote out at slots (put_mid at k out new) (at + length slots)
-  copied {new} {k} room q e =
-      record {
-        ends = refl;
-        is = put_mid-paste at k out new slots (length slots) e q refl ∙ rw (take-length slots) (sym (sets-eq slots out at room));
-      }
+  pub copy_first : out ≡ paste out at slots 0
+  copy_first = paste-zero out at slots
+
+  module _ (e : ℕ) {now : List ℕ} (room : at + length slots ≤ length out) where
+    pub copy_long : (e ≤ length slots) × (now ≡ paste out at slots e) → length now ≡ length out
+    copy_long w = ap length w.1 ∙ length-paste out at slots e (omega (arith, w.0)) w.0
+
+    pub copy_next : e < length slots → now ≡ paste out at slots e → set now (at + e) (get_or slots e 0) ≡ paste out at slots (e + 1)
+    copy_next l w =
+        let z : e + 1 ≡ suc e = omega arith in
+        rw (z, w) (paste-suc out at slots e 0 (omega arith) l)
+
+    pub copied : length slots ≤ e → (e ≤ length slots) × (now ≡ paste out at slots e) → Wrote out at slots now (at + length slots)
+    copied h w =
+        record {
+          ends = refl;
+          is = w.1 ∙ ap (paste out at slots) (le_antisymm w.0 h) ∙ rw (take-length slots) (sym (sets-eq slots out at room));
+        }
 
 -- ---- a pattern with its pairs
 module _ (n : ℕ) (hs ps : List ℕ) (lent : PatternsLent (patterns_of n hs ps)) where

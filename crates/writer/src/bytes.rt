@@ -75,10 +75,12 @@ pub(crate) fn emit_head<'a>(set: SetView<'a>, out: &mut [u8]) -> usize
     emit_patterns(out, r, &set.tables.headings, &set.tables.pairs, f.patterns)
 }
 
-// The slots.
+// The slots. One after another, and not by `copy_from_slice`: that becomes a call of memmove, a name that the archive would newly need from outside.
 pub(crate) fn emit_slots(out: &mut [u8], at: usize, slots: &[u8])
     requires { at + length slots.now ≤ length out.old }
     ensures { Wrote out.old at slots.now out.new (at + length slots.now) }
 {
-    out[at..at + slots.len()].copy_from_slice(slots);
+    for e in 0..slots.len() {
+        out[at + e] = slots[e];
+    }
 }

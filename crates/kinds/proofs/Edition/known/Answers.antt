@@ -1,6 +1,6 @@
 use Rattle.std.proofs.Common.{arith}
 use Rattle.kinds.specs.RangeLaws.{edition_first, edition_second, edition_other}
-use Rattle.kinds.proofs.Edition.of.Goals as goal
+use Rattle.kinds.proofs.Edition.known.Goals as goal
 
 pub returns-in-1 : goal.returns-in-1
 returns-in-1 c = edition_first _ c.in-1.is
